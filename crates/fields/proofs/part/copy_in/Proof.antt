@@ -1,0 +1,72 @@
+-- `copy_in`: the loop stores the source byte by byte. Its measure is what is left of the source.
+use borrow.Author.Needs.{needs}
+use borrow.Author.Tests.{not-true, not-false}
+use lib.ListN.{length}
+use mathlib.Core.Path.{refl, sym}
+use native.Mathlib.Omega.{arith}
+use Prim.Native.Nat.{_-_}
+use Rattle.fields.proofs.Loops.{Filling, fill-start, fill-turn, fill-end}
+use Rattle.fields.proofs.Parts.{inside, outside, splice-out}
+use Rattle.fields.proofs.part.copy_in.Statement.{statement}
+use Rattle.fields.proofs.part.copy_in.Tie as tie
+
+abbrev Inv-loop : tie.InvT-loop
+Inv-loop b₀ at src i₀ b i = Filling b₀ at (length src) src b i
+
+abbrev μ-loop : tie.MeasureT-loop
+μ-loop b₀ at src i₀ b i = length src - i
+
+within-requires : tie.Need-within-requires Inv-loop μ-loop
+within-requires c κs = search needs
+
+same-length : tie.Need-same-length Inv-loop μ-loop
+same-length c = search needs
+
+returns : tie.Need-returns Inv-loop μ-loop
+returns c = sym (splice-out _ _ _ (outside _ _ (c .before .within .ensures) (not-true _ (c .if1 .taken))))
+
+loop-holds : tie.Need-loop-holds Inv-loop μ-loop
+loop-holds c = fill-start _ _ _ _ refl (inside _ _ (c .before .within .ensures) (not-false _ (c .if1 .left)))
+
+shared-slice-read-b : tie.Need-shared-slice-read-b Inv-loop μ-loop
+shared-slice-read-b c = search needs
+
+add-b : tie.Need-add-b Inv-loop μ-loop
+add-b c = omega arith
+
+slice-write-b : tie.Need-slice-write-b Inv-loop μ-loop
+slice-write-b c = omega arith
+
+add-i : tie.Need-add-i Inv-loop μ-loop
+add-i c = omega arith
+
+loop-less : tie.Need-loop-less Inv-loop μ-loop
+loop-less c = omega arith
+
+loop-again : tie.Need-loop-again Inv-loop μ-loop
+loop-again c = fill-turn _ (c .before .before .loop .inv) (c .before .loop-test .taken) refl
+
+same-length-2 : tie.Need-same-length-2 Inv-loop μ-loop
+same-length-2 c = c .before .loop .inv .same
+
+returns-2 : tie.Need-returns-2 Inv-loop μ-loop
+returns-2 c = fill-end (c .before .loop .inv) (c .loop-test .left)
+
+pub copy-in-spec : {M : Type 1} → statement M
+copy-in-spec =
+    tie.close
+    (tie.spec
+    Inv-loop
+    μ-loop
+    within-requires
+    same-length
+    returns
+    loop-holds
+    shared-slice-read-b
+    add-b
+    slice-write-b
+    add-i
+    loop-less
+    loop-again
+    same-length-2
+    returns-2)

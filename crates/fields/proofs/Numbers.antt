@@ -6,12 +6,12 @@ use Prim.Native.Nat.{ℕ, zero, suc, _+_, _*_, _/_, _%_, _≤_, _<_, _^_}
 use native.Mathlib.Omega.{arith}
 use native.Mathlib.Nat.{pow-suc, pow-succ', suc-add, mul-assoc, mul-comm, suc-mul, mul-le-mul-right, div-div-eq-div-mul}
 use native.Mathlib.Numerals.{add-one}
-use lib.ListN.{length, getD, set, take, drop}
+use lib.ListN.{length, getD, set, take}
 use lib.Pow.{pow-add}
 use lib.Seq.{drop-cons, set-split}
 use Rattle.fields.specs.Part.{part, splice}
 use Rattle.fields.specs.Number.{value, digits, getLE, putLE, Bytes, Loaded}
-use Rattle.fields.proofs.Parts.{Apart, within?, part-in, part-out, splice-in, splice-out, length-part, length-splice, part-splice-same, part-splice-other, part-join, splice-join, splice-part, splice-again}
+use Rattle.fields.proofs.Parts.{Apart, part-in, part-out, splice-in, splice-out, length-part, length-splice, part-splice-same, part-splice-other, part-join, splice-join}
 
 -- ---- numbers and their bytes
 

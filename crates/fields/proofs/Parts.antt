@@ -1,12 +1,12 @@
 -- The laws of parts: what a part reads after a store, and parts of two lists in a row. Each is stated for every place and count. Assumes nothing.
-use mathlib.Core.Bool.{Bool, true, false, cond, _&&_, and-assoc, and-eq-true-iff}
+use mathlib.Core.Bool.{Bool, true, false, _&&_, and-assoc, and-eq-true-iff}
 use mathlib.Core.List.{List, [], _∷_, _++_, append-assoc, append-nil}
 use mathlib.Core.Path.{_≡_, refl, sym, ap, ap₂, _∙_}
 use Prim.Native.Nat.{ℕ, zero, suc, _+_, _-_, _≤_, _<_}
 use native.Mathlib.Omega.{arith}
 use lib.Dec.{leb, eqb}
-use lib.ListN.{length, take, drop, getD, length-append, length-take, length-drop, take-append-drop, drop-of-length-le, replicate}
-use lib.Seq.{take-append-le, drop-append-le, take-append-add, drop-append-add, take-append-seam, drop-append-seam, drop-drop, take-add, length-take-le, drop-at}
+use lib.ListN.{length, take, drop, length-append, length-take, length-drop, take-append-drop, drop-of-length-le, replicate}
+use lib.Seq.{take-append-le, drop-append-le, take-append-add, drop-append-add, take-append-seam, drop-drop, take-add, length-take-le, drop-at}
 use borrow.Author.Tests.{leb-true, leb-false, le-leb, lt-leb, eqb-true}
 use Rattle.fields.specs.Part.{part, splice, zeros}
 

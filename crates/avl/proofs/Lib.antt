@@ -1,0 +1,13 @@
+pub mod Sides
+pub mod Lists
+pub mod Removal
+pub mod Walks
+pub mod Sorting
+pub mod Search
+pub mod Answers
+pub mod Keys
+pub mod Beside
+pub mod Shapes
+pub mod Runs
+pub mod Balance
+pub mod Height

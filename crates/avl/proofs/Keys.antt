@@ -65,7 +65,7 @@ key-same m n h = go (told m n)
 -- ---- the order of slots by their keys, and its comparisons
 
 module _ (key : ℕ → ℕ) where
-  pub keys : Order
+  unfoldable pub keys : Order
   keys = record { less = lessKey key; trans = λ x y z p q. omega arith; irrefl = λ x p. omega arith }
 
   -- the search for a key goes by it, and meets one slot at most

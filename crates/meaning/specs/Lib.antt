@@ -1,0 +1,9 @@
+pub mod Layout
+pub mod Pool
+pub mod Sound
+pub mod Change
+pub mod Cursor
+pub mod Command
+pub mod Doors
+pub mod Listing
+pub mod WellFormed

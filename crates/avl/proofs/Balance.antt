@@ -45,20 +45,20 @@ plug-height (step d s b z p) t u e =
 -- ---- balanced trees by their heights
 
 -- balanced, and of height h
-record Sized (t : Tree) (h : ℕ) : Type 0 where
-  sound : Balanced t
-  high : height t ≡ h
+pub record Sized (t : Tree) (h : ℕ) : Type 0 where
+  pub sound : Balanced t
+  pub high : height t ≡ h
 
-sized : {t : Tree} {h : ℕ} → Balanced t → height t ≡ h → Sized t h
+pub sized : {t : Tree} {h : ℕ} → Balanced t → height t ≡ h → Sized t h
 sized i e = record { sound = i; high = e }
 
 -- the height of the part on side d, of the other part and of the whole, for each balance
-data Fit (d : Dir) : Bal → ℕ → ℕ → ℕ → Type 0 where
+pub data Fit (d : Dir) : Bal → ℕ → ℕ → ℕ → Type 0 where
   flat : {n : ℕ} → Fit d even n n (suc n)
   taller : {n : ℕ} → Fit d (heavy d) (suc n) n (suc (suc n))
   shorter : {n : ℕ} → Fit d (heavy (flip d)) n (suc n) (suc (suc n))
 
-fits : (d : Dir) (b : Bal) (m n : ℕ) → m + tilt (flip d) b ≡ n + tilt d b → Fit d b m n (suc (max m n))
+pub fits : (d : Dir) (b : Bal) (m n : ℕ) → m + tilt (flip d) b ≡ n + tilt d b → Fit d b m n (suc (max m n))
 fits d b m n e = go (view d b) e
   where
     go : {b : Bal} → View d b → m + tilt (flip d) b ≡ n + tilt d b → Fit d b m n (suc (max m n))
@@ -78,11 +78,11 @@ join d {a} {z} {b} s i j f =
     meant shorter = simp facing (omega arith)
 
 -- a tree taken apart as seen from side d: one that is not of height 0 has two parts
-data Cut (d : Dir) : Tree → ℕ → Type 0 where
+pub data Cut (d : Dir) : Tree → ℕ → Type 0 where
   empty : Cut d leaf 0
   split : (a : Tree) (s : ℕ) {b : Bal} (z : Tree) {m n k : ℕ} → Sized a m → Sized z n → Fit d b m n k → Cut d (branch d a s b z) k
 
-cut : (d : Dir) (t : Tree) {k : ℕ} → Sized t k → Cut d t k
+pub cut : (d : Dir) (t : Tree) {k : ℕ} → Sized t k → Cut d t k
 unfolding height
 cut d t {k} i = go (apart d t) i
   where
@@ -103,7 +103,7 @@ goes : {still moved : ℕ} {u : Tree} → Sized u moved → Left still moved (on
 goes i = going (i .sound) (i .high)
 
 -- the two parts are of one height: only a rotation over such a tree stops the climb
-data Poised : Tree → Type 0 where
+pub data Poised : Tree → Type 0 where
   equal : {l : Tree} {s : ℕ} {r : Tree} → Poised (node l s even r)
 
 double-left : (d : Dir) {a : Tree} (c : ℕ) {w : Tree} (s : ℕ) {z : Tree} {n k : ℕ} → Sized a n → Cut d w (suc n) → Sized z n
@@ -129,12 +129,12 @@ rotate-left d t s z i j e = rw e (rotate-cut d s (cut d t (sized i e)) (sized j 
 -- ---- the climbs
 
 -- a step at a place of height h stops with a balanced tree of that height, or goes on with a change of it
-data Outcome (Change : ℕ → Tree → Type 0) (h : ℕ) : Climb → Type 0 where
+pub data Outcome (Change : ℕ → Tree → Type 0) (h : ℕ) : Climb → Type 0 where
   held : {u : Tree} → Sized u h → Outcome Change h (stop u)
   passed : {u : Tree} → Change h u → Outcome Change h (on u)
 
-record Steps (Change : ℕ → Tree → Type 0) (f : Lean → Dir → ℕ → Tree → Tree → Climb) : Type 0 where
-  next : {d : Dir} (s : ℕ) {b : Bal} {z t : Tree} {m n k : ℕ} → Fit d b m n k → Sized z n → Change m t → Outcome Change k (f (seen d b) d s z t)
+pub record Steps (Change : ℕ → Tree → Type 0) (f : Lean → Dir → ℕ → Tree → Tree → Climb) : Type 0 where
+  pub next : {d : Dir} (s : ℕ) {b : Bal} {z t : Tree} {m n k : ℕ} → Fit d b m n k → Sized z n → Change m t → Outcome Change k (f (seen d b) d s z t)
 
 -- the whole, of height h before, is balanced and of that height, or changed
 data Whole (Change : ℕ → Tree → Type 0) (h : ℕ) (u : Tree) : Type 0 where
@@ -160,11 +160,11 @@ climb-whole {Change} {f} l (step d s b z p) o t (under j e r) c =
     go (passed {u} c) room above = above u c
 
 -- one higher than h, and leaning to a side unless there was nothing before
-record Higher (h : ℕ) (t : Tree) : Type 0 where
-  more : Sized t (suc h)
-  leans : Poised t → h ≡ 0
+pub record Higher (h : ℕ) (t : Tree) : Type 0 where
+  pub more : Sized t (suc h)
+  pub leans : Poised t → h ≡ 0
 
-grown-steps : Steps Higher grown
+pub grown-steps : Steps Higher grown
 unfolding grown branch
 grown-steps = record { next = go }
   where
@@ -182,10 +182,10 @@ higher (kept i) = (i .sound, omega arith, omega arith)
 higher (changed i) = (i .more .sound, omega arith, omega arith)
 
 -- one lower than h
-data Lower : ℕ → Tree → Type 0 where
+pub data Lower : ℕ → Tree → Type 0 where
   less : {h : ℕ} {t : Tree} → Sized t h → Lower (suc h) t
 
-shrunk-steps : Steps Lower shrunk
+pub shrunk-steps : Steps Lower shrunk
 unfolding shrunk
 shrunk-steps = record { next = go }
   where

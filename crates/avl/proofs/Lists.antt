@@ -92,7 +92,7 @@ rotate-list e d t s z l = go (apart d t)
     go (parts a c b w) = ap (λ (x : Climb). list e (tree x)) (rotate-branch d a c b w s z) ∙ turn-list e d (seen d b) a c w s z b l
 
 -- a step of a climb that keeps the list
-pub Keeps : (Lean → Dir → ℕ → Tree → Tree → Climb) → Type 0
+unfoldable pub Keeps : (Lean → Dir → ℕ → Tree → Tree → Climb) → Type 0
 Keeps f = (e d : Dir) (m : Lean) (s : ℕ) (b : Bal) (z t : Tree) → list e (tree (f m d s z t)) ≡ list e (branch d t s b z)
 
 pub grown-list : Keeps grown

@@ -4,3 +4,4 @@ pub mod Rotate
 pub mod Edit
 pub mod Search
 pub mod Order
+pub mod Links

@@ -11,7 +11,7 @@ use lib.Pow.{pow-add}
 use lib.Seq.{drop-cons, set-split}
 use Rattle.fields.specs.Part.{part, splice}
 use Rattle.fields.specs.Number.{value, digits, getLE, putLE, Bytes, Loaded}
-use Rattle.fields.proofs.Parts.{Apart, part-in, part-out, splice-in, splice-out, length-part, length-splice, part-splice-same, part-splice-other, part-join, splice-join}
+use Rattle.fields.proofs.Parts.{Apart, part-in, part-out, splice-in, splice-out, length-part, length-splice, part-splice-same, part-splice-other, part-join, splice-join, splice-again, splice-apart}
 
 -- ---- numbers and their bytes
 
@@ -69,6 +69,17 @@ get-out width bs at h = ap value (part-out bs at width h)
 pub put-out : (width : ℕ) (bs : List ℕ) (at v : ℕ) → length bs < at + width → putLE width bs at v ≡ bs
 unfolding putLE
 put-out width bs at v h = splice-out bs at (digits width v) (simp length-digits h)
+
+-- the last of two stores to one place stands
+pub put-put-same : (width : ℕ) (bs : List ℕ) (at v w : ℕ) → putLE width (putLE width bs at v) at w ≡ putLE width bs at w
+unfolding putLE
+put-put-same width bs at v w = splice-again bs at (digits width v) (digits width w) (length-digits width v ∙ sym (length-digits width w))
+
+-- stores to places that lie apart change places
+pub put-put-other : (width : ℕ) (bs : List ℕ) (at v width′ at′ w : ℕ) → Apart at width at′ width′
+    → putLE width′ (putLE width bs at v) at′ w ≡ putLE width (putLE width′ bs at′ w) at v
+unfolding putLE
+put-put-other width bs at v width′ at′ w apart = splice-apart bs at (digits width v) at′ (digits width′ w) (simp length-digits apart)
 
 -- ---- a number in two pieces, m bytes and then n
 

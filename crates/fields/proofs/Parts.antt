@@ -198,6 +198,39 @@ splice-again bs at a b e =
     ∙ sym (splice-in bs at b (omega arith) ∙ simp r))
     (λ h. ap (λ (l : List ℕ). splice l at b) (splice-out bs at a h))
 
+-- ---- two stores that lie apart
+
+-- the earlier place lies in the first of two lists, the later one begins with the second
+splice-seam : (f r : List ℕ) (at : ℕ) (a : List ℕ) (at′ : ℕ) (b : List ℕ) → length f ≡ at′ → at + length a ≤ at′
+    → splice (splice (f ++ r) at a) at′ b ≡ splice (splice (f ++ r) at′ b) at a
+splice-seam f r at a at′ b e h =
+    let first = splice f at a in
+    let second = splice r 0 b in
+    let in-f : at + length a ≤ length f = omega arith in
+    let i : at′ ≡ length first + 0 = simp length-splice (omega arith) in
+    let j : length f + 0 ≡ at′ = omega arith in
+    ap₂ (λ (l : List ℕ) (k : ℕ). splice l k b) (splice-append-left f r at a in-f) i
+    ∙ splice-append-right first r 0 b
+    ∙ sym (splice-append-left f second at a in-f)
+    ∙ ap (λ (l : List ℕ). splice l at a) (sym (splice-append-right f r 0 b) ∙ ap (λ (k : ℕ). splice (f ++ r) k b) j)
+
+splice-before : (bs : List ℕ) (at : ℕ) (a : List ℕ) (at′ : ℕ) (b : List ℕ) → at + length a ≤ at′
+    → splice (splice bs at a) at′ b ≡ splice (splice bs at′ b) at a
+splice-before bs at a at′ b h =
+    within? at′ (length bs)
+    (λ i.
+    let e : take at′ bs ++ drop at′ bs ≡ bs = take-append-drop at′ bs in
+    rw e at (splice-seam (take at′ bs) (drop at′ bs) at a at′ b (length-take-le at′ bs i) h))
+    (λ o.
+    splice-out (splice bs at a) at′ b (simp length-splice (omega arith))
+    ∙ ap (λ (l : List ℕ). splice l at a) (sym (splice-out bs at′ b (omega arith))))
+
+-- stores to parts that lie apart change places
+pub splice-apart : (bs : List ℕ) (at : ℕ) (a : List ℕ) (at′ : ℕ) (b : List ℕ) → Apart at (length a) at′ (length b)
+    → splice (splice bs at a) at′ b ≡ splice (splice bs at′ b) at a
+splice-apart bs at a at′ b (before h) = splice-before bs at a at′ b h
+splice-apart bs at a at′ b (after h) = sym (splice-before bs at′ b at a h)
+
 -- ---- zeros
 
 pub zeros-append : (a b : List ℕ) → zeros (a ++ b) ≡ (zeros a && zeros b)

@@ -12,7 +12,8 @@ use Rattle.avl.specs.Tree.{left, right, Bal, code, Tree, leaf, node, top, list}
 use Rattle.avl.specs.Order.{All}
 use Rattle.avl.proofs.Sorting.{all-append}
 use Rattle.meaning.specs.Layout.{bit, all, count, at}
-use Rattle.meaning.specs.Pool.{Links, linksIn, rootOf, leftIn, rightIn, parentIn, balanceIn, treeIn, decode, readTree}
+use Rattle.avl.specs.Links.{Links, linksIn}
+use Rattle.meaning.specs.Pool.{rootOf, leftIn, rightIn, parentIn, balanceIn, treeIn, decode, readTree}
 use Rattle.meaning.specs.Sound.{linked}
 use Rattle.meaning.proofs.Facts.{count-none, test, facts, count-append}
 use Rattle.meaning.proofs.Clauses.{TreeFacts}

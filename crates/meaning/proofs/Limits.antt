@@ -9,7 +9,7 @@ use Rattle.meaning.specs.Layout.{all, every}
 use Rattle.meaning.specs.Doors.{create, check, batch, Outcome, name}
 use Rattle.meaning.proofs.Lines.{Line, _⇒_, op, _in-tree_, _named_long_, add, remove-by-key, mark, refused_kind_, kind_nothing, kind_slot_stamp_key_text_, replies, batchOf, letters, fresh, outcome, same}
 use Rattle.meaning.proofs.Cases
-use Rattle.meaning.proofs.Cases.{p1}
+use Rattle.meaning.proofs.Cases.{pool1}
 
 -- ---- batch
 
@@ -34,7 +34,7 @@ on b ask w lend a answered n left b′ written a′ = record {
 }
 
 damaged : List ℕ
-damaged = set p1 0 2
+damaged = set pool1 0 2
 
 -- batches without a command, with one and with many
 empty : List ℕ
@@ -57,24 +57,24 @@ half =
 calls : List Call
 calls =
     -- 2 BAD_BATCH: shorter than its header
-    on p1 ask [] lend [] refused 2
-    ∷ on p1 ask take 15 empty lend [] refused 2
+    on pool1 ask [] lend [] refused 2
+    ∷ on pool1 ask take 15 empty lend [] refused 2
     -- edition, offset of commands, offset of names, length of names
-    ∷ on p1 ask set empty 0 2 lend [] refused 2
-    ∷ on p1 ask set empty 0 0 lend [] refused 2
-    ∷ on p1 ask set empty 4 17 lend [] refused 2
-    ∷ on p1 ask set empty 8 40 lend [] refused 2
-    ∷ on p1 ask set empty 12 1 lend [] refused 2
+    ∷ on pool1 ask set empty 0 2 lend [] refused 2
+    ∷ on pool1 ask set empty 0 0 lend [] refused 2
+    ∷ on pool1 ask set empty 4 17 lend [] refused 2
+    ∷ on pool1 ask set empty 8 40 lend [] refused 2
+    ∷ on pool1 ask set empty 12 1 lend [] refused 2
     -- more commands than there are, or fewer; a byte less, a byte more
-    ∷ on p1 ask set one 2 2 lend replicate 48 7 refused 2
-    ∷ on p1 ask set one 2 0 lend replicate 48 7 refused 2
-    ∷ on p1 ask take 39 one lend replicate 48 7 refused 2
-    ∷ on p1 ask one ++ (0 ∷ []) lend replicate 48 7 refused 2
+    ∷ on pool1 ask set one 2 2 lend replicate 48 7 refused 2
+    ∷ on pool1 ask set one 2 0 lend replicate 48 7 refused 2
+    ∷ on pool1 ask take 39 one lend replicate 48 7 refused 2
+    ∷ on pool1 ask one ++ (0 ∷ []) lend replicate 48 7 refused 2
     -- 257 commands; 16,385 bytes of names
-    ∷ on p1 ask batchOf (many 257) [] lend replicate 6_168 7 refused 2
-    ∷ on p1 ask batchOf [] (replicate 16_385 120) lend [] refused 2
+    ∷ on pool1 ask batchOf (many 257) [] lend replicate 6_168 7 refused 2
+    ∷ on pool1 ask batchOf [] (replicate 16_385 120) lend [] refused 2
     -- 3 BAD_OUT: answers shorter than 24C
-    ∷ on p1 ask one lend replicate 23 7 refused 3
+    ∷ on pool1 ask one lend replicate 23 7 refused 3
     -- 1 DAMAGED, without a command too
     ∷ on damaged ask one lend replicate 24 7 refused 1
     ∷ on damaged ask empty lend [] refused 1
@@ -83,14 +83,14 @@ calls =
     ∷ on damaged ask take 39 one lend replicate 23 7 refused 2
     ∷ on damaged ask one lend replicate 23 7 refused 3
     -- no command: nothing changes; 16,384 bytes of names
-    ∷ on p1 ask empty lend 5 ∷ 6 ∷ [] answered 0 left p1 written (5 ∷ 6 ∷ [])
-    ∷ on p1 ask batchOf [] (replicate 16_384 120) lend [] answered 0 left p1 written []
+    ∷ on pool1 ask empty lend 5 ∷ 6 ∷ [] answered 0 left pool1 written (5 ∷ 6 ∷ [])
+    ∷ on pool1 ask batchOf [] (replicate 16_384 120) lend [] answered 0 left pool1 written []
     -- 256 commands
-    ∷ on p1 ask batchOf (many 256) [] lend replicate 6_144 7 answered 256 left p1 written replies (many 256)
+    ∷ on pool1 ask batchOf (many 256) [] lend replicate 6_144 7 answered 256 left pool1 written replies (many 256)
     -- what lies beyond 24C is unchanged
-    ∷ on p1 ask one lend replicate 30 7 answered 1 left p1 written (kind 0 nothing ++ replicate 6 7)
+    ∷ on pool1 ask one lend replicate 30 7 answered 1 left pool1 written (kind 0 nothing ++ replicate 6 7)
     -- a mark open at the end is rolled back without an answer: the next stamp alone differs
-    ∷ on p1 ask batchOf half (letters half) lend replicate 72 7 answered 3 left set p1 28 5 written replies half
+    ∷ on pool1 ask batchOf half (letters half) lend replicate 72 7 answered 3 left set pool1 28 5 written replies half
     ∷ []
 
 asStated : Call → Bool
@@ -99,7 +99,7 @@ asStated c =
     all (eqb (o .code) (r .code) ∷ eqb (o .answered) (r .answered) ∷ same (o .pool) (r .pool) ∷ same (o .answers) (r .answers) ∷ [])
 
 batches : every asStated calls ≡ true
-unfolding Cases.opened p1 damaged empty one many half calls asStated
+unfolding Cases.opened pool1 damaged empty one many half calls asStated
 batches = refl
 
 -- ---- create: slots, trees, text size and the length of the buffer
@@ -144,14 +144,15 @@ good-sizes = refl
 -- a fresh pool, byte by byte
 fresh-pool :
     create 1 2 3 (replicate 83 7) .buffer
-    ≡ 1 ∷ 0 ∷ 1 ∷ 0 ∷ 2 ∷ 0 ∷ 0 ∷ 0 ∷ 32 ∷ 0 ∷ 0 ∷ 0 ∷ 48 ∷ 0 ∷ 0 ∷ 0 ∷ 80 ∷ 0 ∷ 0 ∷ 0 ∷ 3 ∷ 0 ∷ 0 ∷ 0 ∷ 0 ∷ 0 ∷ 0 ∷ 0 ∷ 1 ∷ 0 ∷ 0 ∷ 0 ∷ replicate 51 0
+    ≡ 1 ∷ 0 ∷ 1 ∷ 0 ∷ 2 ∷ 0 ∷ 0 ∷ 0 ∷ 32 ∷ 0 ∷ 0 ∷ 0 ∷ 48 ∷ 0 ∷ 0 ∷ 0 ∷ 80 ∷ 0 ∷ 0 ∷ 0 ∷ 3 ∷ 0 ∷ 0 ∷ 0 ∷ 0 ∷ 0 ∷ 0 ∷ 0 ∷ 1 ∷ 0 ∷ 0 ∷ 0
+    ∷ replicate 51 0
 unfolding Cases.opened
 fresh-pool = refl
 
 -- ---- check
 
-checks : (check p1 ≡ 0) × (check (fresh 2 2 3) ≡ 0) × (check damaged ≡ 1) × (check [] ≡ 1)
-unfolding Cases.opened p1 damaged
+checks : (check pool1 ≡ 0) × (check (fresh 2 2 3) ≡ 0) × (check damaged ≡ 1) × (check [] ≡ 1)
+unfolding Cases.opened pool1 damaged
 checks = (refl, refl, refl, refl)
 
 -- ---- name

@@ -25,7 +25,7 @@ use Rattle.meaning.specs.Listing
 
 -- ---- commands
 
--- its name is `len` bytes of the names from `start` on; without a start, from the place on that its line has
+-- a command; its name is `len` bytes of the names from `start` on, or from the place of its line on if there is no start
 pub record Ask : Type 0 where
   pub op : ℕ
   pub tree : ℕ
@@ -35,11 +35,11 @@ pub record Ask : Type 0 where
   pub start : Option ℕ
   pub len : ℕ
 
--- in fields that an op does not use stands 200, and a name that is too long
+-- an op alone: 200 stands in the other fields, and a name that is too long, so that what an op does not use is never what it might want
 abbrev pub op : ℕ → Ask
 op o = record { op = o; tree = 200; slot = 200; stamp = 200; key = 200; start = some 200; len = 256 }
 
--- ops that name a tree, here tree 1; by a key, by a handle; ops that add a record, whose name is the letter of the line
+-- an op on tree 1; with a key; with a handle; with a key and a name, the letter of its line
 abbrev pub treed : ℕ → Ask
 treed o = record { op = o; tree = 1; slot = 200; stamp = 200; key = 200; start = some 200; len = 256 }
 
@@ -61,7 +61,7 @@ infixl 69 _named_long_
 abbrev pub _named_long_ : Ask → ℕ → ℕ → Ask
 a named s long n = record { op = a .op; tree = a .tree; slot = a .slot; stamp = a .stamp; key = a .key; start = some s; len = n }
 
--- the ops by their names
+-- the ops by their names; those that take the cursor's tree are given a tree that there is not
 abbrev pub add : ℕ → Ask
 add k = adding 1 k
 
@@ -151,6 +151,7 @@ reset = op 29
 
 -- ---- answers: all 24 bytes; the kind is the cursor's after the command
 
+-- refused with a number
 infix 70 refused_kind_
 abbrev pub refused_kind_ : ℕ → ℕ → List ℕ
 refused e kind k = pack ((1, e) ∷ (1, k) ∷ (22, 0) ∷ [])
@@ -172,6 +173,7 @@ kind k slot x stamp g key y text s = kind k slot x stamp g key y text s long 1
 
 -- ---- lines and batches
 
+-- a command and its answer
 infix 68 _⇒_
 pub data Line : Type 0 where
   _⇒_ : Ask → List ℕ → Line
@@ -188,13 +190,14 @@ unfoldable pub placed : ℕ → Option ℕ → ℕ
 placed i none = i
 placed i (some s) = s
 
--- the last two bytes of a command are not used
+-- the commands of the lines from line i on; their last two bytes are not used
 unfoldable pub asked : ℕ → List Line → List ℕ
 asked i [] = []
 asked i ((a ⇒ r) ∷ ls) =
     pack ((1, a .op) ∷ (1, a .tree) ∷ (2, a .slot) ∷ (4, a .stamp) ∷ (8, a .key) ∷ (4, placed i (a .start)) ∷ (2, a .len) ∷ (2, 200) ∷ [])
     ++ asked (suc i) ls
 
+-- the answers that the lines are to have
 unfoldable pub replies : List Line → List ℕ
 replies [] = []
 replies ((a ⇒ r) ∷ ls) = r ++ replies ls

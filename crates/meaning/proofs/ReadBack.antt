@@ -10,7 +10,8 @@ use Rattle.fields.specs.Number.{value, getLE}
 use Rattle.fields.specs.Part.{part}
 use Rattle.avl.specs.Tree.{leaf}
 use Rattle.meaning.specs.Layout.{at}
-use Rattle.meaning.specs.Pool.{Rec, Pool, recAt, treeAt, Links, linksAt, recordRows, bytes, treeIn, readRec, read, textUsed, textOf}
+use Rattle.avl.specs.Links.{Links}
+use Rattle.meaning.specs.Pool.{Rec, Pool, recAt, treeAt, linksAt, recordRows, bytes, treeIn, readRec, read, textUsed, textOf}
 use Rattle.meaning.specs.WellFormed.{WellFormed}
 use Rattle.meaning.proofs.Contents.{recOf, length-slots, length-trees, read-free, read-live, rec-read, tree-read}
 use Rattle.meaning.proofs.Packed.{written-header, written-entries, written-records, written-text, rows-many, entry-at}

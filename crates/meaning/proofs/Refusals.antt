@@ -74,14 +74,16 @@ numbers =
     -- 10 BAD_OP: op 0 and every op above 29, before BAD_TREE
     on held 2 1 8 (10 ∷ []) run op 0 ⇒ refused 10 kind 0 ∷ op 30 ⇒ refused 10 kind 0 ∷ op 255 ⇒ refused 10 kind 0 ∷ [] unchanged
     -- 11 BAD_TREE: ops 1 to 11 on tree 0 or above T, before BAD_NAME, BAD_SLOT and NONE
-    ∷ on held 2 2 8 (10 ∷ []) run ops from 1 to 11 on-tree 0 are (refused 11 kind 0) ++ ops from 1 to 11 on-tree 3 are (refused 11 kind 0) unchanged
+    ∷ on held 2 2 8 (10 ∷ [])
+    run ops from 1 to 11 on-tree 0 are (refused 11 kind 0) ++ ops from 1 to 11 on-tree 3 are (refused 11 kind 0) unchanged
     -- 12 BAD_CURSOR, before BAD_NAME: no cursor
     ∷ on held 3 1 8 (10 ∷ 20 ∷ 30 ∷ []) run ops from 12 to 25 on-tree 1 are (refused 12 kind 0) unchanged
     -- 12 at kind 1: 20, 24, 25
     ∷ on held 3 1 8 (10 ∷ 20 ∷ 30 ∷ []) run entry 20 ⇒ kind 1 shows 2 ∷ ops 20 ∷ 24 ∷ 25 ∷ [] on-tree 1 are (refused 12 kind 1) unchanged
     -- 12 at kind 2: 16 to 19, 21 to 25
     ∷ on held 3 1 8 (10 ∷ 20 ∷ 30 ∷ [])
-    run entry 15 ⇒ kind 2 shows 1 ∷ ops from 16 to 19 on-tree 1 are (refused 12 kind 2) ++ ops from 21 to 25 on-tree 1 are (refused 12 kind 2) unchanged
+    run entry 15 ⇒ kind 2 shows 1 ∷ ops from 16 to 19 on-tree 1 are (refused 12 kind 2)
+    ++ ops from 21 to 25 on-tree 1 are (refused 12 kind 2) unchanged
     -- 12 at kind 3: 20, 24; at kind 4: 20, 25
     ∷ on held 3 1 8 (10 ∷ 20 ∷ 30 ∷ [])
     run (first-entry ⇒ kind 3 shows 1 ∷ ops 20 ∷ 24 ∷ [] on-tree 1 are (refused 12 kind 3))
@@ -93,7 +95,8 @@ numbers =
     -- 13 BAD_NAME, before PRESENT and ORDER: length 0, length 256, past the names; the sum of offset and length does not wrap
     ∷ on held 4 1 8 (10 ∷ 20 ∷ 30 ∷ [])
     run add 40 named 0 long 0 ⇒ refused 13 kind 0 ∷ add 40 named 0 long 256 ⇒ refused 13 kind 0 ∷ add 10 named 0 long 0 ⇒ refused 13 kind 0
-    ∷ add 40 named 4_294_967_295 long 1 ⇒ refused 13 kind 0 ∷ add 40 named 4_294_967_295 long 0 ⇒ refused 13 kind 0
+    ∷ add 40 named 65_536 long 1 ⇒ refused 13 kind 0 ∷ add 40 named 4_294_967_295 long 1 ⇒ refused 13 kind 0
+    ∷ add 40 named 4_294_967_295 long 0 ⇒ refused 13 kind 0
     ∷ entry 20 ⇒ kind 1 shows 2 ∷ ops from 16 to 19 on-tree 1 are (refused 13 kind 1)
     ++ (entry 15 ⇒ kind 2 shows 1 ∷ insert-node 16 named 0 long 256 ⇒ refused 13 kind 2 ∷ first-entry ⇒ kind 3 shows 1
     ∷ prepend 10 named 0 long 0 ⇒ refused 13 kind 3 ∷ last-entry ⇒ kind 4 shows 3 ∷ append 30 named 0 long 256 ⇒ refused 13 kind 4 ∷ [])
@@ -106,8 +109,8 @@ numbers =
     -- 14 BAD_SLOT for ops 4 to 6: slot 0 or above N. 15 STALE: a free slot, or another stamp, in another tree too. 16 OTHER_TREE, before NONE
     ∷ on held 3 2 8 (10 ∷ [])
     run add 20 in-tree 2 ⇒ kind 0 shows 2 ∷ remove-handle 0 1 ⇒ refused 14 kind 0 ∷ next 4 1 ⇒ refused 14 kind 0
-    ∷ prev 65_535 1 ⇒ refused 14 kind 0 ∷ remove-handle 3 0 ⇒ refused 15 kind 0 ∷ next 3 3 ⇒ refused 15 kind 0 ∷ prev 1 2 ⇒ refused 15 kind 0
-    ∷ remove-handle 2 1 ⇒ refused 15 kind 0 ∷ remove-handle 2 2 ⇒ refused 16 kind 0 ∷ next 2 2 ⇒ refused 16 kind 0
+    ∷ prev 257 1 ⇒ refused 14 kind 0 ∷ remove-handle 3 0 ⇒ refused 15 kind 0 ∷ next 3 3 ⇒ refused 15 kind 0 ∷ prev 1 2 ⇒ refused 15 kind 0
+    ∷ next 1 65_537 ⇒ refused 15 kind 0 ∷ remove-handle 2 1 ⇒ refused 15 kind 0 ∷ remove-handle 2 2 ⇒ refused 16 kind 0 ∷ next 2 2 ⇒ refused 16 kind 0
     ∷ prev 1 1 in-tree 2 ⇒ refused 16 kind 0 ∷ []
     leave (10 ∷ [])
     -- 17 PRESENT, before NO_SLOT, NO_TEXT and NO_STAMP
@@ -125,9 +128,10 @@ numbers =
     unchanged
     -- 18 at the ends: no record on that side; 20 asks for the entry's key; 24 and 25 lose the cursor
     ∷ on held 3 1 8 (10 ∷ 20 ∷ 30 ∷ [])
-    run first-entry ⇒ kind 3 shows 1 ∷ insert-before 0 ⇒ refused 20 kind 3 ∷ insert-before 10 ⇒ refused 18 kind 3 ∷ insert-after 20 ⇒ refused 18 kind 3
-    ∷ last-entry ⇒ kind 4 shows 3 ∷ insert-after-move 31 ⇒ refused 20 kind 4 ∷ insert-before-move 30 ⇒ refused 18 kind 4
-    ∷ entry 15 ⇒ kind 2 shows 1 ∷ insert-node 16 ⇒ refused 18 kind 2 ∷ insert-node 14 ⇒ refused 18 kind 2 ∷ insert-node 15 ⇒ refused 20 kind 2
+    run first-entry ⇒ kind 3 shows 1 ∷ insert-before 0 ⇒ refused 20 kind 3 ∷ insert-before 10 ⇒ refused 18 kind 3
+    ∷ insert-after 20 ⇒ refused 18 kind 3 ∷ last-entry ⇒ kind 4 shows 3 ∷ insert-after-move 31 ⇒ refused 20 kind 4
+    ∷ insert-before-move 30 ⇒ refused 18 kind 4 ∷ entry 15 ⇒ kind 2 shows 1 ∷ insert-node 16 ⇒ refused 18 kind 2
+    ∷ insert-node 14 ⇒ refused 18 kind 2 ∷ insert-node 15 ⇒ refused 20 kind 2
     ∷ last-entry ⇒ kind 4 shows 3 ∷ append 31 ⇒ refused 20 kind 4 ∷ append 30 ⇒ refused 18 kind 0 ∷ append 31 ⇒ refused 12 kind 0
     ∷ first-entry ⇒ kind 3 shows 1 ∷ prepend 9 ⇒ refused 20 kind 3 ∷ prepend 10 ⇒ refused 18 kind 0 ∷ prepend 9 ⇒ refused 12 kind 0 ∷ []
     unchanged
@@ -144,6 +148,10 @@ numbers =
     run get 15 ⇒ refused 19 kind 0 ∷ remove-by-key 15 ⇒ refused 19 kind 0 ∷ next 3 3 ⇒ refused 19 kind 0 ∷ prev 1 1 ⇒ refused 19 kind 0
     ∷ last-entry ⇒ kind 4 shows 3 ∷ peek-next ⇒ refused 19 kind 4 ∷ remove-next ⇒ refused 19 kind 4 ∷ move-next ⇒ refused 19 kind 0
     ∷ first-entry ⇒ kind 3 shows 1 ∷ peek-prev ⇒ refused 19 kind 3 ∷ remove-prev ⇒ refused 19 kind 3 ∷ move-prev ⇒ refused 19 kind 0 ∷ []
+    unchanged
+    -- ops that read, done: nothing changes
+    ∷ on held 3 1 8 (10 ∷ 20 ∷ 30 ∷ [])
+    run get 20 ⇒ kind 0 shows 2 ∷ next 1 1 ⇒ kind 0 shows 2 ∷ prev 3 3 ⇒ kind 0 shows 2 ∷ first ⇒ kind 0 shows 1 ∷ last ⇒ kind 0 shows 3 ∷ []
     unchanged
     -- 20 NO_SLOT, before NO_TEXT and NO_STAMP; 21 NO_TEXT, before NO_STAMP; 22 NO_STAMP
     ∷ on late 255 (held 3 1 3 (10 ∷ 20 ∷ 30 ∷ [])) run adds-refused 20 unchanged

@@ -15,7 +15,8 @@ use Rattle.fields.specs.Part.{zeros}
 use Rattle.fields.proofs.Parts.{zeros-all}
 use Rattle.avl.specs.Tree.{left, Tree, list}
 use Rattle.meaning.specs.Layout.{bit, count, concat, at}
-use Rattle.meaning.specs.Pool.{Pool, linksIn, linksAt, liveCount, headerBytes, entryBytes, recordBytes, recordRows, bytes, edition, nSlots, nTrees, nLive, atEntries, atRecords, atText, textSize, textUsed, nextStamp, rootOf, countOf, keyIn, leftIn, rightIn, parentIn, balanceIn, treeIn, stampIn, startIn, lenIn, entries, records, textOf, readRec, readTree, read, unlinked}
+use Rattle.avl.specs.Links.{unlinked, linksIn}
+use Rattle.meaning.specs.Pool.{Pool, linksAt, liveCount, headerBytes, entryBytes, recordBytes, recordRows, bytes, edition, nSlots, nTrees, nLive, atEntries, atRecords, atText, textSize, textUsed, nextStamp, rootOf, countOf, keyIn, leftIn, rightIn, parentIn, balanceIn, treeIn, stampIn, startIn, lenIn, entries, records, textOf, readRec, readTree, read}
 use Rattle.meaning.specs.Sound.{sound}
 use Rattle.meaning.proofs.Facts.{concat-rows, pack-unpack}
 use Rattle.meaning.proofs.Clauses.{EntryFacts, LiveFacts, RowFacts, TreeFacts, Clauses, clauses, length-entries, length-records}

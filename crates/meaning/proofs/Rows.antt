@@ -13,7 +13,8 @@ use Rattle.avl.specs.Tree.{left, right, Bal, even, heavy, code, Tree, leaf, nod
 use Rattle.avl.specs.Order.{All}
 use Rattle.avl.proofs.Sorting.{all-map}
 use Rattle.meaning.specs.Layout.{pack, at}
-use Rattle.meaning.specs.Pool.{Rec, Pool, recAt, treeAt, Links, unlinked, linksIn, linksAt, entryBytes, recordBytes, recordRows, rootOf, countOf, keyIn, leftIn, rightIn, parentIn, balanceIn, treeIn, stampIn, startIn, lenIn}
+use Rattle.avl.specs.Links.{Links, unlinked, linksIn}
+use Rattle.meaning.specs.Pool.{Rec, Pool, recAt, treeAt, linksAt, entryBytes, recordBytes, recordRows, rootOf, countOf, keyIn, leftIn, rightIn, parentIn, balanceIn, treeIn, stampIn, startIn, lenIn}
 use Rattle.meaning.specs.WellFormed.{GoodRec, WellFormed}
 use Rattle.meaning.proofs.Members.{all-node, slot-in, tree-lives, list-short}
 use Rattle.meaning.proofs.Packed.{packed-field, row-at}

@@ -10,7 +10,8 @@ use borrow.Author.Tests.{eq-eqb, le-leb}
 use Rattle.avl.specs.Tree.{left, right, Bal, even, heavy, code, Tree, leaf, node, top, list, height}
 use Rattle.avl.specs.Order.{All}
 use Rattle.meaning.specs.Layout.{bit, count, at}
-use Rattle.meaning.specs.Pool.{Pool, treeAt, Links, unlinked, linksIn, linksAt, recordRows, leftIn, rightIn, parentIn, treeIn, decode, readTree}
+use Rattle.avl.specs.Links.{Links, unlinked, linksIn}
+use Rattle.meaning.specs.Pool.{Pool, treeAt, linksAt, recordRows, leftIn, rightIn, parentIn, treeIn, decode, readTree}
 use Rattle.meaning.specs.Sound.{linked}
 use Rattle.meaning.specs.WellFormed.{WellFormed}
 use Rattle.meaning.proofs.Facts.{all-facts, bit-zero}

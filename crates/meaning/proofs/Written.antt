@@ -16,7 +16,8 @@ use Rattle.avl.specs.Tree.{left, Tree, leaf, node, top, list}
 use Rattle.avl.specs.Order.{All, nil, more}
 use Rattle.avl.proofs.Sorting.{all-map}
 use Rattle.meaning.specs.Layout.{bit, within, all, every, count, at}
-use Rattle.meaning.specs.Pool.{Rec, Pool, recAt, treeAt, keyOf, keyAt, isLive, livesIn, liveCount, Links, linksAt, entryBytes, recordRows, bytes, keyIn, balanceIn, treeIn, stampIn, startIn, lenIn, records, read}
+use Rattle.avl.specs.Links.{Links}
+use Rattle.meaning.specs.Pool.{Rec, Pool, recAt, treeAt, keyOf, keyAt, isLive, livesIn, liveCount, linksAt, entryBytes, recordRows, bytes, keyIn, balanceIn, treeIn, stampIn, startIn, lenIn, records, read}
 use Rattle.meaning.specs.Sound.{headerOk, entryOk, liveOk, recordOk, textOk, reached, rising, treeOk, treesOk, sound}
 use Rattle.meaning.specs.WellFormed.{GoodRec, WellFormed}
 use Rattle.meaning.proofs.Facts.{both-true, at-every, span-every}

@@ -6,7 +6,8 @@ use Prim.Native.Nat.{ℕ, zero, suc, _+_, _*_, _-_}
 use lib.Dec.{eqb}
 use lib.ListN.{length, take, drop, replicate}
 use Rattle.fields.specs.Number.{getLE}
-use Rattle.avl.specs.Tree.{left, right, Bal, even, heavy, code, Tree, leaf, node, top, list}
+use Rattle.avl.specs.Tree.{left, right, Bal, even, heavy, Tree, leaf, node, top, list}
+use Rattle.avl.specs.Links.{Links, unlinked, linksIn}
 use Rattle.meaning.specs.Layout.{pack, rows, concat, count, at}
 
 -- ---- the state
@@ -56,22 +57,7 @@ liveCount p = count isLive (p .slots)
 
 -- ---- its bytes
 
--- left, right, parent and balance, as a record stores them
-pub record Links : Type 0 where
-  pub left : ℕ
-  pub right : ℕ
-  pub parent : ℕ
-  pub balance : ℕ
-
-abbrev pub unlinked : Links
-unlinked = record { left = 0; right = 0; parent = 0; balance = 0 }
-
--- the links of slot x in a tree that hangs below the record u, or k if it is not there
-unfoldable pub linksIn : Tree → ℕ → ℕ → Links → Links
-linksIn leaf u x k = k
-linksIn (node l s b r) u x k =
-    cond (eqb x s) (record { left = top l; right = top r; parent = u; balance = code b }) (linksIn l s x (linksIn r s x k))
-
+-- the links of slot x, which are read off its tree
 unfoldable pub linksAt : Pool → ℕ → ℕ → Links
 linksAt p t x = linksIn (treeAt p t) 0 x unlinked
 

@@ -20,16 +20,16 @@ use Rattle.tree.proofs.Places.{above-alone, hung, pointed}
 
 -- ---- trees of the same slots
 
-occurs : ℕ → List ℕ → ℕ
+unfoldable pub occurs : ℕ → List ℕ → ℕ
 occurs x [] = 0
 occurs x (y ∷ l) = one (eqb x y) + occurs x l
 
-occurs-append : (x : ℕ) (l k : List ℕ) → occurs x (l ++ k) ≡ occurs x l + occurs x k
+pub occurs-append : (x : ℕ) (l k : List ℕ) → occurs x (l ++ k) ≡ occurs x l + occurs x k
 unfolding occurs
 occurs-append x [] k = omega arith
 occurs-append x (y ∷ l) k = omega (arith, occurs-append x l k)
 
-times-occurs : (x : ℕ) (t : Tree) → times x t ≡ occurs x (list left t)
+pub times-occurs : (x : ℕ) (t : Tree) → times x t ≡ occurs x (list left t)
 unfolding times list occurs
 times-occurs x leaf = refl
 times-occurs x (node l s b r) = omega (arith, occurs-append x (list left l) (s ∷ list left r), times-occurs x l, times-occurs x r)

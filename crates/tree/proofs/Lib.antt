@@ -21,3 +21,5 @@ pub mod Neighbour
 pub mod Removal
 pub mod Trees
 pub mod Sections
+pub mod Fitting
+pub mod Records

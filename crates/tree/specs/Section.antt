@@ -2,7 +2,8 @@
 use mathlib.Core.List.{List, [], _++_}
 use Prim.Native.Nat.{ℕ, zero, suc}
 use Rattle.fields.specs.Number.{digits}
-use Rattle.avl.specs.Links.{Links}
+use Rattle.avl.specs.Tree.{Tree}
+use Rattle.avl.specs.Links.{Links, linksIn}
 
 -- what a record holds besides its links: its key, and the 17 bytes after them
 pub record Cargo : Type 0 where
@@ -20,3 +21,7 @@ rowsFrom k c x (suc n) = row (k x) (c x) ++ rowsFrom k c (suc x) n
 -- of the slots 1 to N
 abbrev pub section : (ℕ → Links) → (ℕ → Cargo) → ℕ → List ℕ
 section k c N = rowsFrom k c 1 N
+
+-- the records of the slots 1 to N that hold the tree t, with the links k wherever t has none, and what follows them
+unfoldable pub holding : Tree → (ℕ → Links) → (ℕ → Cargo) → ℕ → List ℕ → List ℕ
+holding t k c N tail = section (λ x. linksIn t 0 x (k x)) c N ++ tail

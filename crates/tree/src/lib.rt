@@ -5,7 +5,7 @@
 //
 // Every function is total and has no `requires`: a slot that is 0 or out of range reads as 0 and takes
 // no store. Each promise is an equation with a model of specs/ on the record bytes. What the models
-// do to bytes that hold a tree of `avl` is proofs/Trees.antt.
+// do to records that hold a tree of `avl` is proofs/Records.antt.
 //
 // | Rust                                | here                         | difference                                        |
 // |-------------------------------------|------------------------------|---------------------------------------------------|
@@ -27,6 +27,10 @@
 // | bottom_child, _walk_dir             | walk::bottom_child, walk_dir | the height limits the loops                       |
 // | first, last                         | walk::first, last            | a slot, 0 for none                                |
 // | get, entry                          | search::get, entry           | keys are u64; the keys compared are counted       |
+// | add, remove_by_key                  | search::entry, then insert   | the batch's tests stand between the two           |
+// |                                     | or remove                    |                                                   |
+// | next, prev                          | walk::walk_dir               | to the right, to the left                         |
+// | len, is_empty                       | node::AvlTree                | its count                                         |
 // | rotate                              | rotate::rotate               | single and double apart; `inv_bal & -flag` as     |
 // |                                     |                              | `inv_bal & (0 - flag)`, wrapping                  |
 // | _insert                             | insert::insert               | the loop's body is `grow_step`                    |

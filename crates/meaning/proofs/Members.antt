@@ -119,7 +119,7 @@ pub tree-levels : (p : Pool) (t : ℕ) → WellFormed p → 1 ≤ t → t ≤ le
 tree-levels p t v lo hi =
     levels-14 (treeAt p t) (v .trees t lo hi .balanced) (omega (arith, size-list left (treeAt p t), list-short p t v lo hi, v .slots-high))
 
-height-size : (t : Tree) → height t ≤ size t
+pub height-size : (t : Tree) → height t ≤ size t
 unfolding height size
 height-size leaf = omega arith
 height-size (node l s b r) = omega (arith, height-size l, height-size r)

@@ -1,0 +1,115 @@
+-- The answers of `is_sound`, each from what was read and found on the way to it. Assumes nothing.
+use mathlib.Core.Bool.{Bool, true, false, not, _&&_}
+use mathlib.Core.List.{List}
+use mathlib.Core.Path.{_≡_, refl, sym, _∙_, ap}
+use native.Mathlib.Omega.{arith}
+use Prim.Native.Nat.{ℕ, _+_, _*_, _-_, _≤_}
+use lib.Dec.{eqb}
+use lib.ListN.{length, take, drop}
+use borrow.Author.Tests.{not-true, not-false}
+use Rattle.fields.specs.Number.{getLE}
+use Rattle.fields.specs.Part.{part, zeros}
+use Rattle.meaning.specs.Layout.{rows, every, count}
+use Rattle.meaning.specs.Pool.{nSlots, nTrees, nLive, textUsed, nextStamp, entries, records, treeIn}
+use Rattle.meaning.specs.Sound.{headerOk, entryOk, recordOk, textOk, treesOk, sound}
+use Rattle.meaning.proofs.Clauses.{header-facts}
+use Rattle.pool.specs.Check.{treesN}
+use Rattle.pool.specs.Rows.{counted}
+use Rattle.pool.specs.declared.rows.Records.{Records}
+use Rattle.pool.proofs.Sections.{counted-ok, counted-live}
+use Rattle.pool.proofs.Decided.{sound-is, text-part, trees-part}
+
+-- a bad header
+pub bad-header : (b : List ℕ) {h : Bool} → h ≡ headerOk b → not h ≡ true → false ≡ sound b
+unfolding sound
+bad-header b e n = sym (simp (sym e ∙ not-true _ n) refl)
+
+-- what a good header gives: the numbers read, and that the sections lie within the pool
+pub record Read (b : List ℕ) (n t used next : ℕ) : Type 0 where
+  pub good : headerOk b ≡ true
+  pub slots : n ≡ nSlots b
+  pub trees : t ≡ nTrees b
+  pub text : used ≡ textUsed b
+  pub stamp : next ≡ nextStamp b
+
+pub have-read : (b : List ℕ) {h : Bool} {n t used next : ℕ} → h ≡ headerOk b → not h ≡ false → n ≡ getLE 2 b 2 → t ≡ getLE 2 b 4 → used ≡ getLE 4 b 24
+    → next ≡ getLE 4 b 28 → Read b n t used next
+unfolding nSlots nTrees textUsed nextStamp
+have-read b e h n t u x = record { good = sym e ∙ not-false _ h; slots = n; trees = t; text = u; stamp = x }
+
+pub record Fits (b : List ℕ) (n t used : ℕ) : Type 0 where
+  pub trees-high : t ≤ 8
+  pub inside : 32 + 8 * t + 32 * n + used ≤ length b
+
+pub fits : {b : List ℕ} {n t used next : ℕ} → Read b n t used next → Fits b n t used
+fits {b} r =
+    let f = header-facts b (r .good) in
+    record { trees-high = omega (arith, f .trees-high, r .trees); inside = omega (arith, f .length-is, f .used-fits, r .slots, r .trees, r .text) }
+
+module _ (b : List ℕ) {n t used next : ℕ} (r : Read b n t used next) {e : Bool} (ee : e ≡ every entryOk (rows t 8 (drop 32 b))) where
+  entries-are : every entryOk (entries b) ≡ e
+  unfolding entries
+  entries-are = sym (ee ∙ ap (λ (k : ℕ). every entryOk (rows k 8 (drop 32 b))) (r .trees))
+
+  pub bad-entries : not e ≡ true → false ≡ sound b
+  bad-entries h = sym (sound-is b (r .good) (entries-are ∙ not-true e h) refl refl refl refl)
+
+  module _ (good-e : not e ≡ false) {q : Records} (qe : q ≡ counted t used next 1 0 0 (rows n 32 (drop (32 + 8 * t) b))) where
+    rows-are : every (recordOk t used next) (rows n 32 (drop (32 + 8 * t) b)) ≡ every (recordOk (nTrees b) (textUsed b) (nextStamp b)) (records b)
+    unfolding records
+    rows-are = simp (r .slots, r .trees, r .text, r .stamp) refl
+
+    records-are : every (recordOk (nTrees b) (textUsed b) (nextStamp b)) (records b) ≡ q .ok
+    records-are = sym (ap (λ (k : Records). k .ok) qe ∙ counted-ok t used next 1 0 0 (rows n 32 (drop (32 + 8 * t) b)) ∙ rows-are)
+
+    e-true : every entryOk (entries b) ≡ true
+    e-true = entries-are ∙ not-false e good-e
+
+    pub bad-records : not (q .ok) ≡ true → false ≡ sound b
+    bad-records h = sym (sound-is b (r .good) e-true (records-are ∙ not-true (q .ok) h) refl refl refl)
+
+    module _ (good-q : not (q .ok) ≡ false) {z : Bool}
+        (ze : z ≡ zeros (part b (32 + 8 * t + 32 * n + used) (length b - (32 + 8 * t + 32 * n) - used))) where
+      r-true : every (recordOk (nTrees b) (textUsed b) (nextStamp b)) (records b) ≡ true
+      r-true = records-are ∙ not-false (q .ok) good-q
+
+      live-is : q .live ≡ count (λ r. not (eqb (treeIn r) 0)) (records b)
+      unfolding records
+      live-is =
+          ap (λ (k : Records). k .live) qe
+          ∙ counted-live t used next 1 0 0 (rows n 32 (drop (32 + 8 * t) b)) (rows-are ∙ r-true)
+          ∙ simp (r .slots, r .trees) (omega arith)
+
+      text-is : textOk b ≡ z
+      text-is = sym (ze ∙ simp (r .slots, r .trees, r .text) (text-part b (inside-pool (fits r))))
+        where
+          inside-pool : Fits b n t used → 32 + 8 * nTrees b + 32 * nSlots b + textUsed b ≤ length b
+          inside-pool f = omega (arith, f .inside, r .slots, r .trees, r .text)
+
+      pub bad-text : not z ≡ true → false ≡ sound b
+      bad-text h = sym (sound-is b (r .good) e-true r-true (text-is ∙ not-true z h) refl refl)
+
+      module _ (good-z : not z ≡ false) {w : Bool}
+          (we : w ≡ treesN (take (32 + 8 * t + 32 * n - (32 + 8 * t)) (drop (32 + 8 * t) b)) n (q .live) 1 0 (rows t 8 (drop 32 b))) where
+        trees-are : treesOk (records b) 1 (entries b) ≡ w
+        unfolding entries
+        trees-are =
+            let k : 32 + 8 * t + 32 * n - (32 + 8 * t) ≡ 32 * n = omega arith in
+            sym (we
+            ∙ ap (λ (y : ℕ). treesN (take y (drop (32 + 8 * t) b)) n (q .live) 1 0 (rows t 8 (drop 32 b))) k
+            ∙ simp (live-is, r .slots, r .trees) (trees-part b (r .good) r-true))
+
+        x-true : textOk b ≡ true
+        x-true = text-is ∙ not-false z good-z
+
+        pub bad-trees : not w ≡ true → false ≡ sound b
+        bad-trees h = sym (sound-is b (r .good) e-true r-true x-true (trees-are ∙ not-true w h) refl)
+
+        pub last-clause : not w ≡ false → {l : ℕ} → l ≡ getLE 2 b 6 → eqb l (q .live) ≡ sound b
+        unfolding nLive
+        last-clause h {l} le =
+            sym (sound-is b (r .good) e-true r-true x-true (trees-are ∙ not-false w h) refl ∙ simp (← le, ← live-is) (and-true (eqb l (q .live))))
+          where
+            and-true : (c : Bool) → (c && true) ≡ c
+            and-true true = refl
+            and-true false = refl

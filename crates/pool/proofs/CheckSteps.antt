@@ -1,0 +1,68 @@
+-- The loop over a pool's trees: each of its answers, by its tests and calls in the code's order. Assumes nothing.
+use mathlib.Core.Path.{_≡_}
+use mathlib.Core.Bool.{true, false, not}
+use mathlib.Core.List.{List, _∷_}
+use Prim.Native.Nat.{ℕ, suc, _+_, _*_, _-_, _≤_, _<_}
+use native.Mathlib.Numerals.{add-one}
+use native.Mathlib.Omega.{arith}
+use lib.Dec.{eqb}
+use lib.ListN.{take, drop}
+use lib.Seq.{drop-drop}
+use borrow.Author.Tests.{eq-eqb, ne-eqb, not-true, not-false}
+use Rattle.fields.specs.Number.{getLE}
+use Rattle.meaning.specs.Layout.{rows}
+use Rattle.meaning.specs.Pool.{rootOf, countOf}
+use Rattle.pool.specs.declared.walk.Walk.{Walk}
+use Rattle.pool.specs.Check.{linkN, treesN}
+
+-- the entries of t trees from the one at i on, and the bytes of that one as the code cuts them out
+unfoldable pub from : List ℕ → ℕ → ℕ → List (List ℕ)
+from b t i = rows (t - i) 8 (drop (32 + 8 * i) b)
+
+abbrev cut : List ℕ → ℕ → List ℕ
+cut b i = take (40 + 8 * i - (32 + 8 * i)) (drop (32 + 8 * i) b)
+
+next : (b : List ℕ) (t i : ℕ) → i < t → from b t i ≡ cut b i ∷ from b t (i + 1)
+unfolding from rows
+next b t i h =
+    let q : t - i ≡ suc (t - (i + 1)) = omega arith in
+    let w : 40 + 8 * i - (32 + 8 * i) ≡ 8 = omega arith in
+    let d : 32 + 8 * i + 8 ≡ 32 + 8 * (i + 1) = omega arith in
+    rw (q, w, ← d, ← drop-drop 8 (32 + 8 * i) b)
+
+-- i of the t trees have passed, with so many records: the check of the others is the check of all
+pub record Passed (m : List ℕ) (N live t : ℕ) (b : List ℕ) (i total : ℕ) : Type 0 where
+  pub come : i ≤ t
+  pub most : total ≤ i * 65535
+  pub same : treesN m N live (i + 1) total (from b t i) ≡ treesN m N live 1 0 (rows t 8 (drop 32 b))
+
+pub pass-start : (m : List ℕ) (N live t : ℕ) (b : List ℕ) → Passed m N live t b 0 0
+unfolding from
+pass-start m N live t b = let q : t - 0 ≡ t = omega arith in record { come = omega arith; most = omega arith; same = rw q }
+
+module _ {m : List ℕ} {N live t : ℕ} {b : List ℕ} {i total : ℕ} (s : Passed m N live t b i total) where
+  pub pass-end : t ≤ i → eqb total live ≡ treesN m N live 1 0 (rows t 8 (drop 32 b))
+  unfolding treesN rows from
+  pass-end h = let q : t - i ≡ 0 = omega (arith, s .come) in rw q at (s .same)
+
+  module _ (h : i < t) {x : ℕ} (e : x ≡ getLE 2 (cut b i) 0) {w : Walk} (f : w ≡ linkN m N (i + 1) 14 0 x 0 0) where
+    turn : treesN m N live (i + 1) total (cut b i ∷ from b t (i + 1)) ≡ treesN m N live 1 0 (rows t 8 (drop 32 b))
+    turn = rw (next b t i h) at (s .same)
+
+    pub pass-bad : not (w .ok) ≡ true → false ≡ treesN m N live 1 0 (rows t 8 (drop 32 b))
+    unfolding treesN rootOf
+    pass-bad g = simp (← e, ← f, not-true (w .ok) g) at turn
+
+    module _ (g : not (w .ok) ≡ false) {c : ℕ} (k : c ≡ getLE 2 (cut b i) 2) where
+      pub pass-other : (w .seen ≡ c → ⊥) → false ≡ treesN m N live 1 0 (rows t 8 (drop 32 b))
+      unfolding treesN rootOf countOf
+      pass-other n = simp (← e, ← f, not-false (w .ok) g, ← k, ne-eqb (w .seen) c n) at turn
+
+      pub pass-on : w .seen ≡ c → c ≤ 65535 → Passed m N live t b (i + 1) (total + w .seen)
+      unfolding treesN rootOf countOf
+      pass-on n l =
+          record {
+            come = omega arith;
+            most = omega (arith, s .most);
+            same = rw (add-one (i + 1)) (simp (← e, ← f, not-false (w .ok) g, ← k, eq-eqb (w .seen) c n) at turn);
+          }

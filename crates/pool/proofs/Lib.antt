@@ -1,0 +1,14 @@
+pub mod Rising
+pub mod Passing
+pub mod Counting
+pub mod OnePass
+pub mod Sections
+pub mod Decided
+pub mod Naming
+pub mod WalkSteps
+pub mod CheckSteps
+pub mod ClauseSteps
+pub mod RowSteps
+pub mod CheckAnswers
+pub mod Fresh
+pub mod CreateSteps

@@ -1,0 +1,81 @@
+-- The sections of a pool as the check sees them: the records counted, their fields read in place, the unused text. Assumes nothing.
+use mathlib.Core.Bool.{true, false≢true, not, cond}
+use mathlib.Core.List.{List, [], _∷_}
+use mathlib.Core.Path.{_≡_, refl, sym, _∙_, ap}
+use native.Mathlib.Omega.{arith}
+use Prim.Native.Nat.{ℕ, zero, suc, _+_, _*_, _-_, _≤_, _<_}
+use lib.Dec.{eqb, eqb·suc-zero}
+use lib.ListN.{length, take, drop, getD}
+use Rattle.fields.specs.Number.{getLE}
+use Rattle.avl.specs.Tree.{left, right}
+use Rattle.tree.specs.Node.{child, parent, balance, getN, keyN}
+use Rattle.meaning.specs.Layout.{rows, every, count, at}
+use Rattle.meaning.specs.Pool.{keyIn, leftIn, rightIn, parentIn, balanceIn, treeIn}
+use Rattle.meaning.specs.Sound.{recordOk}
+use Rattle.meaning.proofs.Facts.{test, length-rows}
+use Rattle.meaning.proofs.Sections.{get-part, row-field}
+use Rattle.pool.specs.Check.{treeN}
+use Rattle.pool.specs.Rows.{counted}
+use Rattle.pool.proofs.Passing.{Agree}
+
+-- ---- the records counted
+
+-- The pass says whether every record is good.
+pub counted-ok : (T used next x n f : ℕ) (rs : List (List ℕ)) → counted T used next x n f rs .ok ≡ every (recordOk T used next) rs
+unfolding counted every
+counted-ok T used next x n f [] = refl
+counted-ok T used next x n f (r ∷ rs) =
+    test (recordOk T used next r)
+    (λ t. test (eqb (treeIn r) 0) (λ u. rw (t, u) (counted-ok T used next (suc x) n (cond (eqb f 0) x f) rs)) (λ u. rw (t, u) (counted-ok T used next (suc x) (n + 1) f rs)))
+    (λ t. rw t refl)
+
+-- and if so, how many are live.
+pub counted-live : (T used next x n f : ℕ) (rs : List (List ℕ)) → every (recordOk T used next) rs ≡ true
+    → counted T used next x n f rs .live ≡ n + count (λ r. not (eqb (treeIn r) 0)) rs
+unfolding counted every count
+counted-live T used next x n f [] h = omega arith
+counted-live T used next x n f (r ∷ rs) h =
+    test (recordOk T used next r)
+    (λ t. test (eqb (treeIn r) 0)
+    (λ u. rw (t, u) (counted-live T used next (suc x) n (cond (eqb f 0) x f) rs (rw t at h) ∙ omega arith))
+    (λ u. rw (t, u) (counted-live T used next (suc x) (n + 1) f rs (rw t at h) ∙ omega arith)))
+    (λ t. absurd (false≢true (rw t at h)))
+
+-- ---- the fields of records, read in place
+
+-- a field of slot x in the record bytes is that of its row
+in-place : (b : List ℕ) (start n i k w : ℕ) → i < n → k + w ≤ 32 → start + 32 * n ≤ length b
+    → cond (eqb (suc i) 0) 0 (getLE w (take (32 * n) (drop start b)) (32 * (suc i - 1) + k)) ≡ getLE w (getD (rows n 32 (drop start b)) i []) k
+in-place b start n i k w low fit long =
+    let e : 32 * (suc i - 1) + k ≡ 32 * i + k = omega arith in
+    simp eqb·suc-zero
+    (ap (getLE w (take (32 * n) (drop start b))) e
+    ∙ get-part b start (32 * n) (32 * i + k) w (omega arith) long
+    ∙ ap (getLE w b) (omega arith)
+    ∙ sym (row-field b start n 32 i k w low fit long))
+
+in-place-key : (b : List ℕ) (start n i : ℕ) → i < n → start + 32 * n ≤ length b
+    → cond (eqb (suc i) 0) 0 (getLE 8 (take (32 * n) (drop start b)) (32 * (suc i - 1))) ≡ getLE 8 (getD (rows n 32 (drop start b)) i []) 0
+in-place-key b start n i low long =
+    ap (λ (y : ℕ). cond (eqb (suc i) 0) 0 (getLE 8 (take (32 * n) (drop start b)) y)) (omega arith) ∙ in-place b start n i 0 8 low (omega arith) long
+
+-- a statement about the slots of n rows, by the rows
+by-rows : (n : ℕ) (bs : List ℕ) (P : ℕ → Type 0) → ((i : ℕ) → i < n → P (suc i)) → (x : ℕ) → 1 ≤ x → x ≤ length (rows n 32 bs) → P x
+by-rows n bs P f zero low high = absurd (omega arith)
+by-rows n bs P f (suc i) low high = f i (omega (arith, high, length-rows n 32 bs))
+
+-- The record bytes of a pool read as its rows do.
+pub agree : (b : List ℕ) (start n : ℕ) → start + 32 * n ≤ length b → Agree (take (32 * n) (drop start b)) (rows n 32 (drop start b))
+unfolding getN keyN treeN leftIn rightIn parentIn balanceIn keyIn treeIn at
+agree b start n h =
+    let m = take (32 * n) (drop start b) in
+    let bs = drop start b in
+    let rs = rows n 32 bs in
+    record {
+      left-is = by-rows n bs (λ x. getN m x (child left) ≡ leftIn (at [] rs x)) (λ i l. in-place b start n i 8 2 l (omega arith) h);
+      right-is = by-rows n bs (λ x. getN m x (child right) ≡ rightIn (at [] rs x)) (λ i l. in-place b start n i 10 2 l (omega arith) h);
+      parent-is = by-rows n bs (λ x. getN m x parent ≡ parentIn (at [] rs x)) (λ i l. in-place b start n i 12 2 l (omega arith) h);
+      balance-is = by-rows n bs (λ x. getN m x balance ≡ balanceIn (at [] rs x)) (λ i l. in-place b start n i 14 1 l (omega arith) h);
+      key-is = by-rows n bs (λ x. keyN m x ≡ keyIn (at [] rs x)) (λ i l. in-place-key b start n i l h);
+      tree-is = by-rows n bs (λ x. treeN m x ≡ treeIn (at [] rs x)) (λ i l. in-place b start n i 15 1 l (omega arith) h);
+    }

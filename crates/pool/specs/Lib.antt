@@ -1,0 +1,4 @@
+pub mod Check
+pub mod Rows
+pub mod Name
+pub mod Create

@@ -1,0 +1,74 @@
+// check: whether a pool is sound, in one pass over each of its sections.
+ghost use mathlib.Core.Path.{_≡_};
+ghost use Prim.Native.Nat.{_+_, _*_, _≤_};
+ghost use lib.ListN.{length, drop};
+ghost use Rattle.meaning.specs.Layout.{rows};
+ghost use Rattle.meaning.specs.Sound.{sound};
+ghost use Rattle.meaning.specs.Doors.{check};
+ghost use Rattle.pool.specs.Check.{treesN};
+use super::rows::entries_ok;
+use super::rows::header_ok;
+use super::rows::records_ok;
+use super::walk::check_link;
+
+// The trees, each in one pass: every walk is good and as long as its count says, and together they
+// have all live records.
+fn trees_ok(pool: &[u8], nodes: &[u8], n: u16, t: u16, live: u16) -> bool
+    requires { ⌜ (32 + 8 * t ≤ length (now pool)) × (t ≤ 8) ⌝ }
+    ensures { λ r. ⌜ r ≡ treesN (now (nodes .entry)) n live 1 0 (rows t 8 (drop 32 (now (pool .entry)))) ⌝ }
+{
+    let mut i: usize = 0;
+    let mut total: u32 = 0;
+    while i < t as usize {
+        let e = &pool[32 + 8 * i..40 + 8 * i];
+        let w = check_link(nodes, n, (i + 1) as u8, 14, 0, fields::get_u16(e, 0), 0, 0);
+        if !w.ok {
+            return false;
+        }
+        if w.seen != fields::get_u16(e, 2) {
+            return false;
+        }
+        total += w.seen as u32;
+        i += 1;
+    }
+    total == live as u32
+}
+
+// Whether the pool is sound.
+pub fn is_sound(pool: &[u8]) -> bool
+    ensures { λ r. ⌜ r ≡ sound (now (pool .entry)) ⌝ }
+{
+    if !header_ok(pool) {
+        return false;
+    }
+    let n = fields::get_u16(pool, 2);
+    let t = fields::get_u16(pool, 4);
+    let used = fields::get_u32(pool, 24);
+    let next = fields::get_u32(pool, 28);
+    let at = 32 + 8 * t as usize;
+    let end = at + 32 * n as usize;
+    if !entries_ok(pool, t) {
+        return false;
+    }
+    let r = records_ok(pool, at, n, t, used, next);
+    if !r.ok {
+        return false;
+    }
+    if !fields::all_zero(pool, end + used as usize, pool.len() - end - used as usize) {
+        return false;
+    }
+    if !trees_ok(pool, &pool[at..end], n, t, r.live) {
+        return false;
+    }
+    fields::get_u16(pool, 6) == r.live
+}
+
+// 0 for a sound pool, else 1 (DAMAGED).
+pub fn check(pool: &[u8]) -> u8
+    ensures { λ r. ⌜ r ≡ check (now (pool .entry)) ⌝ }
+{
+    if is_sound(pool) {
+        return 0;
+    }
+    1
+}

@@ -1,0 +1,14 @@
+// Pool: the doors create and check. Each is proved equal to its definition in `meaning` on all inputs,
+// with no `requires`; what is learnt on the way to an answer has its own equation.
+//
+// | door          | file      | what it does                                                             |
+// |---------------|-----------|--------------------------------------------------------------------------|
+// | create        | create.rt | a fresh pool in a buffer of exactly its size, or BAD_SIZE                |
+// | check         | check.rt  | one pass over each section: header, tree entries, records, text, trees   |
+//
+// rows.rt has the clauses of header, entry and record, walk.rt the pass over a tree's links. Stack
+// only: the deepest call is check_link and check_record, 14 levels of each.
+pub mod check;
+pub mod create;
+pub mod rows;
+pub mod walk;

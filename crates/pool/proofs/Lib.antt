@@ -12,3 +12,4 @@ pub mod RowSteps
 pub mod CheckAnswers
 pub mod Fresh
 pub mod CreateSteps
+pub mod NameSteps

@@ -1,14 +1,16 @@
-// Pool: the doors create and check. Each is proved equal to its definition in `meaning` on all inputs,
+// Pool: the doors create, check and name. Each is proved equal to its definition in `meaning` on all inputs,
 // with no `requires`; what is learnt on the way to an answer has its own equation.
 //
 // | door          | file      | what it does                                                             |
 // |---------------|-----------|--------------------------------------------------------------------------|
 // | create        | create.rt | a fresh pool in a buffer of exactly its size, or BAD_SIZE                |
 // | check         | check.rt  | one pass over each section: header, tree entries, records, text, trees   |
+// | name          | name.rt   | the name of a good handle's record, a part of the pool; else empty       |
 //
 // rows.rt has the clauses of header, entry and record, walk.rt the pass over a tree's links. Stack
 // only: the deepest call is check_link and check_record, 14 levels of each.
 pub mod check;
 pub mod create;
+pub mod name;
 pub mod rows;
 pub mod walk;

@@ -43,7 +43,7 @@ pub fn header_ok(pool: &[u8]) -> bool
     pool.len() == 32 + 8 * t + 32 * n + x
 }
 
-fn between(lo: usize, hi: usize, n: usize) -> bool
+pub fn between(lo: usize, hi: usize, n: usize) -> bool
     ensures { λ r. ⌜ r ≡ within lo hi n ⌝ }
 {
     if n < lo {

@@ -12,5 +12,5 @@
 pub mod check;
 pub mod create;
 pub mod name;
-pub mod rows;
-pub mod walk;
+mod rows;
+mod walk;

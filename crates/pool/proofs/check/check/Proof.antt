@@ -8,16 +8,13 @@ use Rattle.pool.proofs.check.check.Reads as reads
 use Rattle.pool.proofs.check.check.Lts as lts
 use Rattle.pool.proofs.check.is_sound.Reads as is-sound-reads
 
--- src/check.rt:70:8
 is-sound-requires : tie.Need-is-sound-requires
 is-sound-requires c κs = search needs
 
--- src/check.rt:71:9
 returns : tie.Need-returns
 unfolding check
 returns c = simp (sym (c .before .is-sound .ensures) ∙ c .if1 .taken) refl
 
--- src/check.rt:67:1
 returns-2 : tie.Need-returns-2
 unfolding check
 returns-2 c = simp (sym (c .before .is-sound .ensures) ∙ c .if1 .left) refl

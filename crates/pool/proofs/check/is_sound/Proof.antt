@@ -41,75 +41,59 @@ read-there a =
     have-read _ (a .before .before .before .before .before .header-ok .ensures) (a .before .before .before .before .if1 .left)
     (a .before .before .before .get-u16 .ensures) (a .before .before .get-u162 .ensures) (a .before .get-u32 .ensures) (a .get-u322 .ensures)
 
--- src/check.rt:41:9
 header-ok-requires : tie.Need-header-ok-requires
 header-ok-requires c κs = search needs
 
--- src/check.rt:42:9
 returns : tie.Need-returns
 returns c = bad-header _ (c .before .header-ok .ensures) (c .if1 .taken)
 
--- src/check.rt:44:9
 get-u16-requires : tie.Need-get-u16-requires
 get-u16-requires c κs = search needs
 
--- src/check.rt:45:9
 get-u16-requires-2 : tie.Need-get-u16-requires-2
 get-u16-requires-2 c κs = search needs
 
--- src/check.rt:46:9
 get-u32-requires : tie.Need-get-u32-requires
 get-u32-requires c κs = search needs
 
--- src/check.rt:47:9
 get-u32-requires-2 : tie.Need-get-u32-requires-2
 get-u32-requires-2 c κs = search needs
 
--- src/check.rt:48:23
 cast-at : tie.Need-cast-at
 cast-at c = search needs
 
--- src/check.rt:48:19
 mul-at : tie.Need-mul-at
 mul-at c = search needs
 
--- src/check.rt:48:14
 add-at : tie.Need-add-at
 add-at c = search needs
 
--- src/check.rt:49:25
 cast-end : tie.Need-cast-end
 cast-end c = search needs
 
--- src/check.rt:49:20
 mul-end : tie.Need-mul-end
 mul-end c = search needs
 
--- src/check.rt:49:15
 add-end : tie.Need-add-end
 add-end c = search needs
 
--- src/check.rt:50:9
 entries-ok-requires : tie.Need-entries-ok-requires
 entries-ok-requires c κs =
     let r = read-there c in
     omega (arith, fits r .inside)
 
--- src/check.rt:51:9
 returns-2 : tie.Need-returns-2
 returns-2 c =
     let a = c .before .before in
     let r = read-there a in
     bad-entries _ r (c .before .entries-ok .ensures) (c .if2 .taken)
 
--- src/check.rt:53:9
 records-ok-requires : tie.Need-records-ok-requires
 records-ok-requires c κs =
     let a = c .before .before in
     let r = read-there a in
     omega (arith, fits r .inside)
 
--- src/check.rt:55:9
 returns-3 : tie.Need-returns-3
 returns-3 c =
     let a = c .before .before .before .before .before in
@@ -117,37 +101,30 @@ returns-3 c =
     bad-records _ r (c .before .before .before .before .entries-ok .ensures) (c .before .before .before .if2 .left)
     (c .before .before .records-ok .ensures) (c .if3 .taken)
 
--- src/check.rt:57:38
 cast-all-zero : tie.Need-cast-all-zero
 cast-all-zero c = search needs
 
--- src/check.rt:57:32
 add-all-zero : tie.Need-add-all-zero
 add-all-zero c = search needs
 
--- src/check.rt:57:53
 sub-all-zero : tie.Need-sub-all-zero
 sub-all-zero c =
     let a = c .before .before .before .before .before in
     let r = read-there a in
     omega (arith, fits r .inside)
 
--- src/check.rt:57:72
 cast-all-zero-2 : tie.Need-cast-all-zero-2
 cast-all-zero-2 c = search needs
 
--- src/check.rt:57:53
 sub-all-zero-2 : tie.Need-sub-all-zero-2
 sub-all-zero-2 c =
     let a = c .before .before .before .before .before in
     let r = read-there a in
     omega (arith, fits r .inside)
 
--- src/check.rt:57:9
 all-zero-requires : tie.Need-all-zero-requires
 all-zero-requires c κs = search needs
 
--- src/check.rt:58:9
 returns-4 : tie.Need-returns-4
 returns-4 c =
     let a = c .before .before .before .before .before .before .before in
@@ -156,29 +133,24 @@ returns-4 c =
     (c .before .before .before .before .before .if2 .left) (c .before .before .before .before .records-ok .ensures)
     (c .before .before .if3 .left) (c .before .all-zero .ensures) (c .if4 .taken)
 
--- src/check.rt:60:24
 sub-trees-ok : tie.Need-sub-trees-ok
 sub-trees-ok c = search needs
 
--- src/check.rt:60:24
 part-trees-ok-start : tie.Need-part-trees-ok-start
 part-trees-ok-start c = search needs
 
--- src/check.rt:60:24
 part-trees-ok-end : tie.Need-part-trees-ok-end
 part-trees-ok-end c =
     let a = c .before .before .before .before .before .before .before in
     let r = read-there a in
     omega (arith, fits r .inside)
 
--- src/check.rt:60:9
 trees-ok-requires : tie.Need-trees-ok-requires
 trees-ok-requires c κs =
     let a = c .before .before .before .before .before .before .before .before in
     let r = read-there a in
     let f = fits r in (omega (arith, f .inside), f .trees-high)
 
--- src/check.rt:61:9
 returns-5 : tie.Need-returns-5
 returns-5 c =
     let a = c .before .before .before .before .before .before .before .before .before .before in
@@ -189,11 +161,9 @@ returns-5 c =
     (c .before .before .before .before .before .if3 .left) (c .before .before .before .before .all-zero .ensures)
     (c .before .before .before .if4 .left) (c .before .trees-ok .ensures) (c .if5 .taken)
 
--- src/check.rt:63:5
 get-u16-requires-3 : tie.Need-get-u16-requires-3
 get-u16-requires-3 c κs = search needs
 
--- src/check.rt:38:1
 returns-6 : tie.Need-returns-6
 returns-6 c =
     let a = c .before .before .before .before .before .before .before .before .before .before .before .before in

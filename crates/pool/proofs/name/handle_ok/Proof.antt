@@ -5,76 +5,59 @@ use Rattle.pool.proofs.NameSteps.{no-tree, no-slot, slot-low, slot-fits
 use Rattle.pool.proofs.name.handle_ok.Statement.{statement}
 use Rattle.pool.proofs.name.handle_ok.Tie as tie
 
--- src/name.rt:30:17
 get-u16-requires : tie.Need-get-u16-requires
 get-u16-requires c κs = search needs
 
--- src/name.rt:30:17
 cast-trees : tie.Need-cast-trees
 cast-trees c = search needs
 
--- src/name.rt:31:9
 between-requires : tie.Need-between-requires
 between-requires c κs = search needs
 
--- src/name.rt:32:9
 returns : tie.Need-returns
 returns c =
     no-tree _ _ _ _ (c .before .before .get-u16 .ensures) (c .before .between .ensures) (c .if1 .taken)
 
--- src/name.rt:34:20
 get-u16-requires-2 : tie.Need-get-u16-requires-2
 get-u16-requires-2 c κs = search needs
 
--- src/name.rt:34:20
 cast-between : tie.Need-cast-between
 cast-between c = search needs
 
--- src/name.rt:34:9
 between-requires-2 : tie.Need-between-requires-2
 between-requires-2 c κs = search needs
 
--- src/name.rt:35:9
 returns-2 : tie.Need-returns-2
 returns-2 c =
     no-slot _ _ _ _ (c .before .before .before .before .before .get-u16 .ensures) (c .before .before .before .before .between .ensures)
     (c .before .before .before .if1 .left) (c .before .before .get-u162 .ensures) (c .before .between2 .ensures) (c .if2 .taken)
 
--- src/name.rt:37:19
 mul-at : tie.Need-mul-at
 mul-at c = search needs
 
--- src/name.rt:37:14
 add-at : tie.Need-add-at
 add-at c = search needs
 
--- src/name.rt:37:37
 sub-at : tie.Need-sub-at
 sub-at c =
     slot-low _ _ _ 0 (c .before .before .before .before .before .get-u16 .ensures) (c .before .before .before .before .between .ensures)
     (c .before .before .before .if1 .left) (c .before .before .get-u162 .ensures) (c .before .between2 .ensures) (c .if2 .left)
 
--- src/name.rt:37:31
 mul-at-2 : tie.Need-mul-at-2
 mul-at-2 c = search needs
 
--- src/name.rt:37:14
 add-at-2 : tie.Need-add-at-2
 add-at-2 c = search needs
 
--- src/name.rt:38:24
 add-is-match : tie.Need-add-is-match
 add-is-match c = search needs
 
--- src/name.rt:38:14
 sub-is-match : tie.Need-sub-is-match
 sub-is-match c = search needs
 
--- src/name.rt:38:14
 part-is-match-start : tie.Need-part-is-match-start
 part-is-match-start c = search needs
 
--- src/name.rt:38:14
 part-is-match-end : tie.Need-part-is-match-end
 part-is-match-end c =
     omega (
@@ -84,11 +67,9 @@ part-is-match-end c =
           (c .before .between2 .ensures) (c .if2 .left) (c .before .before .before .before .before .before .before .pre),
     )
 
--- src/name.rt:38:5
 is-match-requires : tie.Need-is-match-requires
 is-match-requires c κs = search needs
 
--- src/name.rt:26:1
 returns-3 : tie.Need-returns-3
 returns-3 c =
     slot-matches _ _ _ _ (c .before .before .before .before .before .before .before .get-u16 .ensures)

@@ -4,26 +4,21 @@ use Rattle.pool.proofs.NameSteps.{match-free, match-stale, match-tree}
 use Rattle.pool.proofs.name.is_match.Statement.{statement}
 use Rattle.pool.proofs.name.is_match.Tie as tie
 
--- src/name.rt:15:9
 get-u8-requires : tie.Need-get-u8-requires
 get-u8-requires c κs = search needs
 
--- src/name.rt:17:9
 returns : tie.Need-returns
 returns c =
     match-free _ _ _ (c .before .get-u8 .ensures) (c .if1 .taken)
 
--- src/name.rt:19:8
 get-u32-requires : tie.Need-get-u32-requires
 get-u32-requires c κs = search needs
 
--- src/name.rt:20:9
 returns-2 : tie.Need-returns-2
 returns-2 c =
     match-stale _ _ _ (c .before .before .before .get-u8 .ensures) (c .before .before .if1 .left) (c .before .get-u32 .ensures)
     (c .if2 .taken)
 
--- src/name.rt:12:1
 returns-3 : tie.Need-returns-3
 returns-3 c =
     match-tree _ _ _ (c .before .before .before .get-u8 .ensures) (c .before .before .if1 .left) (c .before .get-u32 .ensures)

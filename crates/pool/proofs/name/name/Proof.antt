@@ -5,137 +5,105 @@ use Rattle.pool.proofs.NameSteps.{unsound, room, refused, low, name-ins
 use Rattle.pool.proofs.name.name.Statement.{statement}
 use Rattle.pool.proofs.name.name.Tie as tie
 
--- src/name.rt:45:9
 is-sound-requires : tie.Need-is-sound-requires
 is-sound-requires c κs = search needs
 
--- src/name.rt:46:16
 sub-result : tie.Need-sub-result
 sub-result c = search needs
 
--- src/name.rt:46:16
 part-result-start : tie.Need-part-result-start
 part-result-start c = search needs
 
--- src/name.rt:46:16
 part-result-end : tie.Need-part-result-end
 part-result-end c = search needs
 
--- src/name.rt:46:9
 returns : tie.Need-returns
 returns c =
     unsound _ _ _ _ (c .before .before .is-sound .ensures) (c .before .if1 .taken)
 
--- src/name.rt:48:9
 handle-ok-requires : tie.Need-handle-ok-requires
 handle-ok-requires c κs =
     room _ 0 0 0 (c .before .is-sound .ensures) (c .if1 .left)
 
--- src/name.rt:49:16
 sub-result-2 : tie.Need-sub-result-2
 sub-result-2 c = search needs
 
--- src/name.rt:49:16
 part-result-start-2 : tie.Need-part-result-start-2
 part-result-start-2 c = search needs
 
--- src/name.rt:49:16
 part-result-end-2 : tie.Need-part-result-end-2
 part-result-end-2 c = search needs
 
--- src/name.rt:49:9
 returns-2 : tie.Need-returns-2
 returns-2 c =
     refused _ _ _ _ (c .before .before .before .before .is-sound .ensures) (c .before .before .before .if1 .left)
     (c .before .before .handle-ok .ensures) (c .before .if2 .taken)
 
--- src/name.rt:51:28
 get-u16-requires : tie.Need-get-u16-requires
 get-u16-requires c κs = search needs
 
--- src/name.rt:51:28
 cast-records : tie.Need-cast-records
 cast-records c = search needs
 
--- src/name.rt:51:24
 mul-records : tie.Need-mul-records
 mul-records c = search needs
 
--- src/name.rt:51:19
 add-records : tie.Need-add-records
 add-records c = search needs
 
--- src/name.rt:52:31
 get-u16-requires-2 : tie.Need-get-u16-requires-2
 get-u16-requires-2 c κs = search needs
 
--- src/name.rt:52:31
 cast-text : tie.Need-cast-text
 cast-text c = search needs
 
--- src/name.rt:52:26
 mul-text : tie.Need-mul-text
 mul-text c = search needs
 
--- src/name.rt:52:16
 add-text : tie.Need-add-text
 add-text c = search needs
 
--- src/name.rt:53:30
 sub-at : tie.Need-sub-at
 sub-at c =
     low _ _ _ _ (c .before .before .before .before .before .is-sound .ensures) (c .before .before .before .before .if1 .left)
     (c .before .before .before .handle-ok .ensures) (c .before .before .if2 .left)
 
--- src/name.rt:53:24
 mul-at : tie.Need-mul-at
 mul-at c = search needs
 
--- src/name.rt:53:14
 add-at : tie.Need-add-at
 add-at c = search needs
 
--- src/name.rt:54:46
 add-get-u32 : tie.Need-add-get-u32
 add-get-u32 c = search needs
 
--- src/name.rt:54:24
 get-u32-requires : tie.Need-get-u32-requires
 get-u32-requires c κs = search needs
 
--- src/name.rt:54:24
 cast-start : tie.Need-cast-start
 cast-start c = search needs
 
--- src/name.rt:54:17
 add-start : tie.Need-add-start
 add-start c = search needs
 
--- src/name.rt:55:48
 add-get-u16 : tie.Need-add-get-u16
 add-get-u16 c = search needs
 
--- src/name.rt:55:26
 get-u16-requires-3 : tie.Need-get-u16-requires-3
 get-u16-requires-3 c κs = search needs
 
--- src/name.rt:55:26
 cast-result : tie.Need-cast-result
 cast-result c = search needs
 
--- src/name.rt:55:18
 add-result : tie.Need-add-result
 add-result c = search needs
 
--- src/name.rt:55:5
 sub-result-3 : tie.Need-sub-result-3
 sub-result-3 c = search needs
 
--- src/name.rt:55:5
 part-result-start-3 : tie.Need-part-result-start-3
 part-result-start-3 c = search needs
 
--- src/name.rt:55:5
 part-result-end-3 : tie.Need-part-result-end-3
 part-result-end-3 c =
     omega (
@@ -146,7 +114,6 @@ part-result-end-3 c =
           (c .before .get-u32 .ensures) (c .get-u163 .ensures),
     )
 
--- src/name.rt:42:1
 returns-3 : tie.Need-returns-3
 returns-3 c =
     name-part _ _ _ _ (c .before .before .before .before .before .before .before .before .is-sound .ensures)

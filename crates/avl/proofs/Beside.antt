@@ -15,17 +15,15 @@ use Rattle.avl.proofs.Sorting.{all-append, all-map, sorted-back, sorted
 use Rattle.avl.proofs.Walks.{walk-list, beside-plug, beside-before, beside-after}
 
 -- if what is sought lies on side d of every slot up to the record s, and on the other side of every slot behind it, the search for its place
--- ends beside s: both insertions give one tree
-add-beside : (cmp : ℕ → Ordering) (d : Dir) (a : Tree) (s : ℕ) (b : Bal) (z : Tree) (p : Way) (x : ℕ)
+-- ends beside s
+entry-beside : (cmp : ℕ → Ordering) (d : Dir) (a : Tree) (s : ℕ) (b : Bal) (z : Tree) (p : Way)
     → Says cmp (toward d) (before (flip d) (beside d a s b z p)) → Says cmp (toward (flip d)) (after (flip d) (beside d a s b z p))
-    → add cmp x (plug p (branch d a s b z)) ≡ insertHere d a s b z p x
-unfolding add insertHere seek
-add-beside cmp d a s b z p x h k =
+    → entry cmp (plug p (branch d a s b z)) ≡ record { part = leaf; way = beside d a s b z p }
+unfolding seek
+entry-beside cmp d a s b z p h k =
     let q = beside d a s b z p in
     let h₂ = subst (λ (e : Dir). Says cmp (toward e) (before (flip d) q)) (sym (flip-flip d)) h in
-    let e : entry cmp (plug p (branch d a s b z)) ≡ record { part = leaf; way = q } =
-    ap (entry cmp) (sym (beside-plug d a s b z p)) ∙ seek-place cmp (flip d) q leaf h₂ k in
-    ap (λ (f : Spot). added (f .part) (f .way) x (plug p (branch d a s b z))) e
+    ap (entry cmp) (sym (beside-plug d a s b z p)) ∙ seek-place cmp (flip d) q leaf h₂ k
 
 -- ---- a sorted list, from either side
 
@@ -49,10 +47,11 @@ next-says : (o : Order) (cmp : ℕ → Ordering) → Follows o cmp → (e : Dir)
 next-says o cmp f e [] h last = nil
 next-says o cmp f e (n ∷ l) (rise p h) (next k) = more k (all-map (λ y r. f .on e n y r k) p)
 
-pub between : (o : Order) (cmp : ℕ → Ordering) → Follows o cmp → (d : Dir) (a : Tree) (s : ℕ) (b : Bal) (z : Tree) (p : Way) (x : ℕ)
+-- the search ends at the empty place beside the record
+pub between-entry : (o : Order) (cmp : ℕ → Ordering) → Follows o cmp → (d : Dir) (a : Tree) (s : ℕ) (b : Bal) (z : Tree) (p : Way)
     → Sorted (o .less) (list left (plug p (branch d a s b z))) → cmp s ≡ toward d → Next cmp (toward (flip d)) (list (flip d) a ++ after (flip d) p)
-    → add cmp x (plug p (branch d a s b z)) ≡ insertHere d a s b z p x
-between o cmp f d a s b z p x h here there =
+    → entry cmp (plug p (branch d a s b z)) ≡ record { part = leaf; way = beside d a s b z p }
+between-entry o cmp f d a s b z p h here there =
     let e = flip d in
     let front = before e p ++ list e z in
     let rest = list e a ++ after e p in
@@ -61,6 +60,14 @@ between o cmp f d a s b z p x h here there =
     let low : Says cmp (toward d) (front ++ (s ∷ [])) =
     all-append (all-map (λ y r. f .on d s y (from-flip (o .less) d s y r) here) (sorted-below front s rest sorted)) (more here nil) in
     let high : Says cmp (toward e) rest = next-says o cmp f e rest (sorted-tail (sorted-back front (s ∷ rest) sorted)) there in
-    add-beside cmp d a s b z p x
+    entry-beside cmp d a s b z p
     (subst (Says cmp (toward d)) (append-assoc (before e p) (list e z) (s ∷ []) ∙ sym (beside-before d a s b z p)) low)
     (subst (Says cmp (toward e)) (sym (beside-after d a s b z p)) high)
+
+-- so both insertions give one tree
+pub between : (o : Order) (cmp : ℕ → Ordering) → Follows o cmp → (d : Dir) (a : Tree) (s : ℕ) (b : Bal) (z : Tree) (p : Way) (x : ℕ)
+    → Sorted (o .less) (list left (plug p (branch d a s b z))) → cmp s ≡ toward d → Next cmp (toward (flip d)) (list (flip d) a ++ after (flip d) p)
+    → add cmp x (plug p (branch d a s b z)) ≡ insertHere d a s b z p x
+unfolding add insertHere
+between o cmp f d a s b z p x h here there =
+    ap (λ (g : Spot). added (g .part) (g .way) x (plug p (branch d a s b z))) (between-entry o cmp f d a s b z p h here there)

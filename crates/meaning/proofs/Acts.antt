@@ -38,7 +38,8 @@ unfolding recAt dropRec withTrees
 drop-lives x r p t y n h = lives (dropRec x r p) t y (ap (livesIn t) (at-put-other none (p .slots) x y none n) ∙ lives-is p t y h)
 
 module _ (p : Pool) (t k : ℕ) (name : List ℕ) (good : WellFormed p) (a : Addable p t k name) where
-  as-put : Edited (grown p name) (addRec t k name p) (freeSlot p) (some (newRec t k name p)) t
+  -- What an add changes.
+  pub as-put : Edited (grown p name) (addRec t k name p) (freeSlot p) (some (newRec t k name p)) t
       (add (byKeyIn (grown p name) k) (freeSlot p) (treeAt (grown p name) t))
   unfolding addRec newRec
   as-put = put-edited (freeSlot p) (newRec t k name p) (grown p name) (formed (grown-good p t k name good a)) (room (add-fits p t k name good a))

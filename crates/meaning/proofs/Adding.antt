@@ -58,7 +58,8 @@ pub record AtEnd (e : Dir) (p : Pool) (k : Cursor) : Type 0 where
   pub tree-high : cursorTree k ≤ length (p .trees)
   pub is-first : standing k ≡ first (list e (treeAt p (cursorTree k)))
 
-not-end : {A : Type 0} (e : Dir) (n : ℕ) → n ≤ 2 → n ≡ pick e 3 4 → A
+-- No other cursor has the kind of an end.
+pub not-end : {A : Type 0} (e : Dir) (n : ℕ) → n ≤ 2 → n ≡ pick e 3 4 → A
 not-end left n l h = absurd (omega arith)
 not-end right n l h = absurd (omega arith)
 

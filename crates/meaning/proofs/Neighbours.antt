@@ -40,7 +40,7 @@ module _ {P : ℕ → Type 0} where
       go true f = all-first l a
       go false f = f
 
-  all-reverse : (l : List ℕ) → All P l → All P (reverse l)
+  pub all-reverse : (l : List ℕ) → All P l → All P (reverse l)
   all-reverse [] h = nil
   all-reverse (x ∷ l) (more p h) = subst (All P) (sym (reverse-cons x l)) (all-append (all-reverse l h) (more p nil))
 

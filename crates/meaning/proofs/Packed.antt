@@ -81,7 +81,8 @@ unfolding recordBytes
 record-length p x none = length-replicate {A = ℕ} 32 0
 record-length p x (some r) = length-pack _
 
-rows-wide : (p : Pool) (x : ℕ) (rs : List (Option Rec)) → Rows 32 (recordRows p x rs)
+-- Each row of a slot has 32 bytes.
+pub rows-wide : (p : Pool) (x : ℕ) (rs : List (Option Rec)) → Rows 32 (recordRows p x rs)
 unfolding recordRows
 rows-wide p x [] = no-row
 rows-wide p x (r ∷ rs) = one-more (record-length p x r) (rows-wide p (suc x) rs)

@@ -59,8 +59,8 @@ links-below : (l : Tree) (s : ℕ) (b : Bal) (r : Tree) (u x : ℕ) (k : Links) 
 unfolding linksIn
 links-below l s b r u x k h = rw (bit-zero (eqb x s) h, linksIn)
 
--- a slot that is not in a tree has no links there
-links-out : (t : Tree) (u x : ℕ) (k : Links) → count (eqb x) (list left t) ≡ 0 → linksIn t u x k ≡ k
+-- A slot that is not in a tree has no links there.
+pub links-out : (t : Tree) (u x : ℕ) (k : Links) → count (eqb x) (list left t) ≡ 0 → linksIn t u x k ≡ k
 unfolding linksIn
 links-out leaf u x k h = refl
 links-out (node l s b r) u x k h =

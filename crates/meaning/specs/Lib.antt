@@ -7,3 +7,5 @@ pub mod Command
 pub mod Doors
 pub mod Listing
 pub mod WellFormed
+pub mod Meant
+pub mod Calls

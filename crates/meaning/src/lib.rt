@@ -12,5 +12,10 @@
 //     Doors       create, check, batch and name, on all inputs
 //     Listing     the listing program's text
 //     WellFormed  what is true of the state of every sound pool
+//     Meant       what a pool means: for each tree the list of its records by rising key
+//     Calls       door calls on one pool, points of a batch, and what is said of a handle from there on
+//
+// The theorems for the demands are proofs/Demand*.antt and proofs/KeptHandles.antt; docs/AUDIT.md leads to
+// them from the auditor's two questions.
 //
 // docs/SPECIFICATION.md points from each sentence of the requirements to its definition.

@@ -1,4 +1,4 @@
--- The answers of `is_sound`, each from what was read and found on the way to it. Assumes nothing.
+-- The answers of `judge`, each from what was read and found on the way to it. Assumes nothing.
 use mathlib.Core.Bool.{Bool, true, false, not, _&&_}
 use mathlib.Core.List.{List}
 use mathlib.Core.Path.{_≡_, refl, sym, _∙_, ap}
@@ -6,23 +6,36 @@ use native.Mathlib.Omega.{arith}
 use Prim.Native.Nat.{ℕ, _+_, _*_, _-_, _≤_}
 use lib.Dec.{eqb}
 use lib.ListN.{length, take, drop}
-use borrow.Author.Tests.{not-true, not-false}
+use borrow.Author.Tests.{not-true, not-false, eq-eqb, ne-eqb}
 use Rattle.fields.specs.Number.{getLE}
 use Rattle.fields.specs.Part.{part, zeros}
 use Rattle.meaning.specs.Layout.{rows, every, count}
-use Rattle.meaning.specs.Pool.{nSlots, nTrees, nLive, textUsed, nextStamp, entries, records, treeIn}
+use Rattle.meaning.specs.Pool.{nSlots, nTrees, nLive, textUsed, nextStamp, entries, records, treeIn, liveCount, read}
+use Rattle.meaning.specs.Change.{freeSlot}
 use Rattle.meaning.specs.Sound.{headerOk, entryOk, recordOk, textOk, treesOk, sound}
+use Rattle.meaning.proofs.Facts.{test}
 use Rattle.meaning.proofs.Clauses.{header-facts}
+use Rattle.meaning.proofs.Contents.{live-read}
 use Rattle.pool.specs.Check.{treesN}
-use Rattle.pool.specs.Rows.{counted}
-use Rattle.pool.specs.declared.rows.Records.{Records}
-use Rattle.pool.proofs.Sections.{counted-ok, counted-live}
+use Rattle.pool.specs.Rows.{counted, unsound, judged}
+use Rattle.pool.specs.declared.check.Judged.{Judged}
+use Rattle.pool.proofs.Sections.{counted-ok, counted-live, counted-free}
 use Rattle.pool.proofs.Decided.{sound-is, text-part, trees-part}
 
+-- the answer where the pool is not sound
+refused : (b : List ℕ) → sound b ≡ false → unsound ≡ judged b
+unfolding judged
+refused b e = rw e refl
+
+-- whether a judged pool is sound
+pub judged-ok : (b : List ℕ) {j : Judged} → j ≡ judged b → j .ok ≡ sound b
+unfolding judged
+judged-ok b e = ap (λ (k : Judged). k .ok) e ∙ test (sound b) (λ t. rw t refl) (λ t. rw t refl)
+
 -- a bad header
-pub bad-header : (b : List ℕ) {h : Bool} → h ≡ headerOk b → not h ≡ true → false ≡ sound b
+pub bad-header : (b : List ℕ) {h : Bool} → h ≡ headerOk b → not h ≡ true → unsound ≡ judged b
 unfolding sound
-bad-header b e n = sym (simp (sym e ∙ not-true _ n) refl)
+bad-header b e n = refused b (simp (sym e ∙ not-true _ n) refl)
 
 -- what a good header gives: the numbers read, and that the sections lie within the pool
 pub record Read (b : List ℕ) (n t used next : ℕ) : Type 0 where
@@ -51,22 +64,24 @@ module _ (b : List ℕ) {n t used next : ℕ} (r : Read b n t used next) {e : Bo
   unfolding entries
   entries-are = sym (ee ∙ ap (λ (k : ℕ). every entryOk (rows k 8 (drop 32 b))) (r .trees))
 
-  pub bad-entries : not e ≡ true → false ≡ sound b
-  bad-entries h = sym (sound-is b (r .good) (entries-are ∙ not-true e h) refl refl refl refl)
+  -- an entry that is not good
+  pub bad-entries : not e ≡ true → unsound ≡ judged b
+  bad-entries h = refused b (sound-is b (r .good) (entries-are ∙ not-true e h) refl refl refl refl)
 
-  module _ (good-e : not e ≡ false) {q : Records} (qe : q ≡ counted t used next 1 0 0 (rows n 32 (drop (32 + 8 * t) b))) where
+  module _ (good-e : not e ≡ false) {q : Judged} (qe : q ≡ counted t used next 1 0 0 (rows n 32 (drop (32 + 8 * t) b))) where
     rows-are : every (recordOk t used next) (rows n 32 (drop (32 + 8 * t) b)) ≡ every (recordOk (nTrees b) (textUsed b) (nextStamp b)) (records b)
     unfolding records
     rows-are = simp (r .slots, r .trees, r .text, r .stamp) refl
 
     records-are : every (recordOk (nTrees b) (textUsed b) (nextStamp b)) (records b) ≡ q .ok
-    records-are = sym (ap (λ (k : Records). k .ok) qe ∙ counted-ok t used next 1 0 0 (rows n 32 (drop (32 + 8 * t) b)) ∙ rows-are)
+    records-are = sym (ap (λ (k : Judged). k .ok) qe ∙ counted-ok t used next 1 0 0 (rows n 32 (drop (32 + 8 * t) b)) ∙ rows-are)
 
     e-true : every entryOk (entries b) ≡ true
     e-true = entries-are ∙ not-false e good-e
 
-    pub bad-records : not (q .ok) ≡ true → false ≡ sound b
-    bad-records h = sym (sound-is b (r .good) e-true (records-are ∙ not-true (q .ok) h) refl refl refl)
+    -- a record that is not good
+    pub bad-records : not (q .ok) ≡ true → unsound ≡ judged b
+    bad-records h = refused b (sound-is b (r .good) e-true (records-are ∙ not-true (q .ok) h) refl refl refl)
 
     module _ (good-q : not (q .ok) ≡ false) {z : Bool}
         (ze : z ≡ zeros (part b (32 + 8 * t + 32 * n + used) (length b - (32 + 8 * t + 32 * n) - used))) where
@@ -76,7 +91,7 @@ module _ (b : List ℕ) {n t used next : ℕ} (r : Read b n t used next) {e : Bo
       live-is : q .live ≡ count (λ r. not (eqb (treeIn r) 0)) (records b)
       unfolding records
       live-is =
-          ap (λ (k : Records). k .live) qe
+          ap (λ (k : Judged). k .live) qe
           ∙ counted-live t used next 1 0 0 (rows n 32 (drop (32 + 8 * t) b)) (rows-are ∙ r-true)
           ∙ simp (r .slots, r .trees) (omega arith)
 
@@ -86,8 +101,9 @@ module _ (b : List ℕ) {n t used next : ℕ} (r : Read b n t used next) {e : Bo
           inside-pool : Fits b n t used → 32 + 8 * nTrees b + 32 * nSlots b + textUsed b ≤ length b
           inside-pool f = omega (arith, f .inside, r .slots, r .trees, r .text)
 
-      pub bad-text : not z ≡ true → false ≡ sound b
-      bad-text h = sym (sound-is b (r .good) e-true r-true (text-is ∙ not-true z h) refl refl)
+      -- unused text that is not zero
+      pub bad-text : not z ≡ true → unsound ≡ judged b
+      bad-text h = refused b (sound-is b (r .good) e-true r-true (text-is ∙ not-true z h) refl refl)
 
       module _ (good-z : not z ≡ false) {w : Bool}
           (we : w ≡ treesN (take (32 + 8 * t + 32 * n - (32 + 8 * t)) (drop (32 + 8 * t) b)) n (q .live) 1 0 (rows t 8 (drop 32 b))) where
@@ -102,14 +118,30 @@ module _ (b : List ℕ) {n t used next : ℕ} (r : Read b n t used next) {e : Bo
         x-true : textOk b ≡ true
         x-true = text-is ∙ not-false z good-z
 
-        pub bad-trees : not w ≡ true → false ≡ sound b
-        bad-trees h = sym (sound-is b (r .good) e-true r-true x-true (trees-are ∙ not-true w h) refl)
+        -- a tree that is not good
+        pub bad-trees : not w ≡ true → unsound ≡ judged b
+        bad-trees h = refused b (sound-is b (r .good) e-true r-true x-true (trees-are ∙ not-true w h) refl)
 
-        pub last-clause : not w ≡ false → {l : ℕ} → l ≡ getLE 2 b 6 → eqb l (q .live) ≡ sound b
-        unfolding nLive
-        last-clause h {l} le =
-            sym (sound-is b (r .good) e-true r-true x-true (trees-are ∙ not-false w h) refl ∙ simp (← le, ← live-is) (and-true (eqb l (q .live))))
-          where
-            and-true : (c : Bool) → (c && true) ≡ c
-            and-true true = refl
-            and-true false = refl
+        module _ (good-w : not w ≡ false) {l : ℕ} (le : l ≡ getLE 2 b 6) where
+          live-clause : {c : Bool} → eqb l (q .live) ≡ c → sound b ≡ (c && true)
+          unfolding nLive
+          live-clause {c} g = sound-is b {l = c} (r .good) e-true r-true x-true (trees-are ∙ not-false w good-w) (simp (← le, ← live-is) g)
+
+          -- a header with another number of live records
+          pub bad-live : (l ≡ q .live → ⊥) → unsound ≡ judged b
+          bad-live h = refused b (live-clause (ne-eqb l (q .live) h))
+
+          free-is : q .free ≡ freeSlot (read b)
+          unfolding freeSlot read records
+          free-is =
+              ap (λ (k : Judged). k .free) qe
+              ∙ counted-free t used next 1 0 0 (rows n 32 (drop (32 + 8 * t) b)) (omega arith) (rows-are ∙ r-true)
+              ∙ simp (r .slots, r .trees) refl
+
+          -- all is good: what the records told is what is judged
+          pub all-good : l ≡ q .live → q ≡ judged b
+          unfolding judged liveCount read
+          all-good h =
+              let told : q ≡ record { ok = true; live = liveCount (read b); free = freeSlot (read b) } =
+              simp (← not-false (q .ok) good-q, live-read (records b), ← live-is, ← free-is) refl in
+              told ∙ simp (live-clause (eq-eqb l (q .live) h)) refl

@@ -7,7 +7,7 @@ use native.Mathlib.Omega.{arith}
 use lib.Dec.{eqb}
 use lib.ListN.{length, getD}
 use borrow.Author.Tests.{eqb-true, eq-eqb}
-use Rattle.avl.specs.Tree.{left, Tree, leaf, node, list, size, height}
+use Rattle.avl.specs.Tree.{left, Tree, list, height}
 use Rattle.avl.specs.Order.{Sorted}
 use Rattle.avl.proofs.Height.{levels-14, size-list}
 use Rattle.avl.proofs.Sorting.{all-map}

@@ -1,18 +1,21 @@
 -- The sections of a pool as the check sees them: the records counted, their fields read in place, the unused text. Assumes nothing.
 use mathlib.Core.Bool.{true, false≢true, not, cond}
-use mathlib.Core.List.{List, [], _∷_}
+use mathlib.Core.List.{List, [], _∷_, map}
 use mathlib.Core.Path.{_≡_, refl, sym, _∙_, ap}
 use native.Mathlib.Omega.{arith}
 use Prim.Native.Nat.{ℕ, zero, suc, _+_, _*_, _-_, _≤_, _<_}
 use lib.Dec.{eqb, eqb·suc-zero}
 use lib.ListN.{length, take, drop, getD}
+use borrow.Author.Tests.{eqb-true, eqb-false, ne-eqb}
 use Rattle.fields.specs.Number.{getLE}
 use Rattle.avl.specs.Tree.{left, right}
 use Rattle.tree.specs.Node.{child, parent, balance, getN, keyN}
 use Rattle.meaning.specs.Layout.{rows, every, count, at}
-use Rattle.meaning.specs.Pool.{keyIn, leftIn, rightIn, parentIn, balanceIn, treeIn}
+use Rattle.meaning.specs.Pool.{keyIn, leftIn, rightIn, parentIn, balanceIn, treeIn, readRec}
+use Rattle.meaning.specs.Change.{freeFrom}
 use Rattle.meaning.specs.Sound.{recordOk}
 use Rattle.meaning.proofs.Facts.{test, length-rows}
+use Rattle.meaning.proofs.Contents.{read-free, read-live}
 use Rattle.meaning.proofs.Sections.{get-part, row-field}
 use Rattle.pool.specs.Check.{treeN}
 use Rattle.pool.specs.Rows.{counted}
@@ -39,6 +42,20 @@ counted-live T used next x n f (r ∷ rs) h =
     (λ t. test (eqb (treeIn r) 0)
     (λ u. rw (t, u) (counted-live T used next (suc x) n (cond (eqb f 0) x f) rs (rw t at h) ∙ omega arith))
     (λ u. rw (t, u) (counted-live T used next (suc x) (n + 1) f rs (rw t at h) ∙ omega arith)))
+    (λ t. absurd (false≢true (rw t at h)))
+
+-- and the lowest free slot, if there was none before.
+pub counted-free : (T used next x n f : ℕ) (rs : List (List ℕ)) → 1 ≤ x → every (recordOk T used next) rs ≡ true
+    → counted T used next x n f rs .free ≡ cond (eqb f 0) (freeFrom x (map readRec rs)) f
+unfolding counted every freeFrom
+counted-free T used next x n f [] low h = test (eqb f 0) (λ z. rw z (eqb-true f 0 z)) (λ z. rw z refl)
+counted-free T used next x n f (r ∷ rs) low h =
+    test (recordOk T used next r)
+    (λ t. test (eqb (treeIn r) 0)
+    (λ u. rw (t, u, read-free r (eqb-true (treeIn r) 0 u))
+    (counted-free T used next (suc x) n (cond (eqb f 0) x f) rs (omega arith) (rw t at h)
+    ∙ test (eqb f 0) (λ z. rw (z, ne-eqb x 0 (omega arith)) refl) (λ z. rw (z, z) refl)))
+    (λ u. rw (t, u, read-live r (omega (arith, eqb-false (treeIn r) 0 u))) (counted-free T used next (suc x) (n + 1) f rs (omega arith) (rw t at h))))
     (λ t. absurd (false≢true (rw t at h)))
 
 -- ---- the fields of records, read in place

@@ -6,10 +6,26 @@ ghost use Rattle.meaning.specs.Layout.{rows};
 ghost use Rattle.meaning.specs.Sound.{sound};
 ghost use Rattle.meaning.specs.Doors.{check};
 ghost use Rattle.pool.specs.Check.{treesN};
+ghost use Rattle.pool.specs.Rows.{judged};
 use super::rows::entries_ok;
 use super::rows::header_ok;
 use super::rows::records_ok;
 use super::walk::check_link;
+
+// Whether all is good, and then how many records are live and the lowest free slot, 0 for none.
+pub struct Judged {
+    pub ok: bool,
+    pub live: u16,
+    pub free: u16,
+}
+
+impl Judged {
+    pub const UNSOUND: Judged = Judged {
+        ok: false,
+        live: 0,
+        free: 0,
+    };
+}
 
 // The trees, each in one pass: every walk is good and as long as its count says, and together they
 // have all live records.
@@ -34,12 +50,13 @@ fn trees_ok(pool: &[u8], nodes: &[u8], n: u16, t: u16, live: u16) -> bool
     total == live as u32
 }
 
-// Whether the pool is sound.
-pub fn is_sound(pool: &[u8]) -> bool
-    ensures { λ r. ⌜ r ≡ sound (now (pool .entry)) ⌝ }
+// What the judgement of a pool tells: whether it is sound, and then how many records are live and the
+// lowest free slot, 0 for none.
+pub fn judge(pool: &[u8]) -> Judged
+    ensures { λ r. ⌜ r ≡ judged (now (pool .entry)) ⌝ }
 {
     if !header_ok(pool) {
-        return false;
+        return Judged::UNSOUND;
     }
     let n = fields::get_u16(pool, 2);
     let t = fields::get_u16(pool, 4);
@@ -48,19 +65,29 @@ pub fn is_sound(pool: &[u8]) -> bool
     let at = 32 + 8 * t as usize;
     let end = at + 32 * n as usize;
     if !entries_ok(pool, t) {
-        return false;
+        return Judged::UNSOUND;
     }
     let r = records_ok(pool, at, n, t, used, next);
     if !r.ok {
-        return false;
+        return Judged::UNSOUND;
     }
     if !fields::all_zero(pool, end + used as usize, pool.len() - end - used as usize) {
-        return false;
+        return Judged::UNSOUND;
     }
     if !trees_ok(pool, &pool[at..end], n, t, r.live) {
-        return false;
+        return Judged::UNSOUND;
     }
-    fields::get_u16(pool, 6) == r.live
+    if fields::get_u16(pool, 6) != r.live {
+        return Judged::UNSOUND;
+    }
+    r
+}
+
+// Whether the pool is sound.
+pub fn is_sound(pool: &[u8]) -> bool
+    ensures { λ r. ⌜ r ≡ sound (now (pool .entry)) ⌝ }
+{
+    judge(pool).ok
 }
 
 // 0 for a sound pool, else 1 (DAMAGED).

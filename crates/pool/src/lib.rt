@@ -7,8 +7,9 @@
 // | check         | check.rt  | one pass over each section: header, tree entries, records, text, trees   |
 // | name          | name.rt   | the name of a good handle's record, a part of the pool; else empty       |
 //
-// rows.rt has the clauses of header, entry and record, walk.rt the pass over a tree's links. Stack
-// only: the deepest call is check_link and check_record, 14 levels of each.
+// check and name rest on judge (check.rt), which also tells how many records of a sound pool are live
+// and its lowest free slot. rows.rt has the clauses of header, entry and record, walk.rt the pass over
+// a tree's links. Stack only: the deepest call is check_link and check_record, 14 levels of each.
 pub mod check;
 pub mod create;
 pub mod name;

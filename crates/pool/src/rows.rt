@@ -5,6 +5,7 @@ ghost use lib.ListN.{length, drop};
 ghost use Rattle.meaning.specs.Layout.{rows, within, every};
 ghost use Rattle.meaning.specs.Sound.{headerOk, entryOk, liveOk, recordOk};
 ghost use Rattle.pool.specs.Rows.{counted};
+use super::check::Judged;
 
 // Whether the header agrees with the pool's length.
 pub fn header_ok(pool: &[u8]) -> bool
@@ -125,15 +126,8 @@ pub fn entries_ok(pool: &[u8], t: u16) -> bool
     true
 }
 
-// What a pass over the records tells: whether all are good, how many are live, and the lowest free
-// slot, 0 for none.
-pub struct Records {
-    pub ok: bool,
-    pub live: u16,
-    pub free: u16,
-}
-
-pub fn records_ok(pool: &[u8], at: usize, n: u16, t: u16, used: u32, next: u32) -> Records
+// The records: whether all are good, and then how many are live and the lowest free slot.
+pub fn records_ok(pool: &[u8], at: usize, n: u16, t: u16, used: u32, next: u32) -> Judged
     requires { ⌜ at + 32 * n ≤ length (now pool) ⌝ }
     ensures { λ r. ⌜ r ≡ counted t used next 1 0 0 (rows n 32 (drop at (now (pool .entry)))) ⌝ }
 {
@@ -143,11 +137,7 @@ pub fn records_ok(pool: &[u8], at: usize, n: u16, t: u16, used: u32, next: u32) 
     while i < n as usize {
         let r = &pool[at + 32 * i..at + 32 * i + 32];
         if !record_ok(r, t, used, next) {
-            return Records {
-                ok: false,
-                live: 0,
-                free: 0,
-            };
+            return Judged::UNSOUND;
         }
         if fields::get_u8(r, 15) != 0 {
             live += 1;
@@ -158,7 +148,7 @@ pub fn records_ok(pool: &[u8], at: usize, n: u16, t: u16, used: u32, next: u32) 
         }
         i += 1;
     }
-    Records {
+    Judged {
         ok: true,
         live,
         free,

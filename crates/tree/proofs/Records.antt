@@ -1,20 +1,20 @@
 -- The tree's functions on the records of a pool: run on the rows that hold a tree, each gives the rows that hold the new tree. Other trees, keys
 -- and every other byte are as they were. These are the laws in the form that the crates above cite. Assumes nothing.
 use mathlib.Core.List.{List, _++_}
-use mathlib.Core.Path.{_≡_, sym, _∙_, ap, subst}
+use mathlib.Core.Path.{_≡_, refl, sym, _∙_, ap, subst}
 use native.Mathlib.Omega.{arith}
 use Prim.Native.Nat.{ℕ, _≤_, _<_, _^_, Ordering, compare}
 use lib.ListN.{length-append}
 use Rattle.avl.specs.Tree.{Dir, right, Bal, Tree, leaf, node, branch, top, list, height, Balanced}
 use Rattle.avl.specs.Way.{Way, root, plug, above, side}
 use Rattle.avl.specs.Links.{Links, unlinked}
-use Rattle.avl.specs.Edit.{insertHere}
+use Rattle.avl.specs.Edit.{beside, insertHere}
 use Rattle.avl.specs.Search.{entry, compared, add, removeByKey, walkDir}
 use Rattle.avl.specs.Order.{byKey, first}
 use Rattle.avl.proofs.Search.{seek-plug}
 use Rattle.tree.specs.Walk.{bottomN, walkN}
 use Rattle.tree.specs.Search.{seekN}
-use Rattle.tree.specs.Insert.{moreN, insertN, insertHereN}
+use Rattle.tree.specs.Insert.{moreN, linkN, insertN, besideN, insertHereN}
 use Rattle.tree.specs.Remove.{lessN, removeN}
 use Rattle.tree.specs.Held.{over, times, Roomy, Fits, treeOf, held}
 use Rattle.tree.specs.Section.{Cargo, section, holding}
@@ -24,7 +24,7 @@ use Rattle.tree.proofs.Neighbour.{times-plug}
 use Rattle.tree.proofs.Inserting.{Blank}
 use Rattle.tree.proofs.Removing.{clear}
 use Rattle.tree.proofs.Sections.{Whole, length-section, section-over, blank-section, key-section}
-use Rattle.tree.proofs.Trees.{New, ending, entry-held, end-held, walk-held, add-held, insert-here-held, remove-by-key-held}
+use Rattle.tree.proofs.Trees.{New, ending, entry-held, end-held, walk-held, beside-held, add-held, insert-here-held, remove-by-key-held}
 use Rattle.tree.proofs.Fitting.{fits-add, fits-insert-here, fits-remove-by-key}
 
 -- N slots, each with 32 bytes and a key of 8
@@ -32,6 +32,11 @@ pub record Rows (c : ℕ → Cargo) (N : ℕ) : Type 0 where
   pub few : N ≤ 1024
   pub whole : Whole c
   pub keys-high : (x : ℕ) → c x .key < 256 ^ 8
+
+-- below no record the side does not matter
+pub root-side : (k : ℕ) (m : List ℕ) (t : AvlTree) (x : ℕ) (d e : Dir) → insertN k m t x 0 d ≡ insertN k m t x 0 e
+unfolding insertN linkN
+root-side k m t x d e = refl
 
 -- a record stands in its tree
 stands : (l : Tree) (s : ℕ) (b : Bal) (r : Tree) (p : Way) → 1 ≤ times s (plug p (node l s b r))
@@ -83,6 +88,11 @@ module _ (k : ℕ → Links) (c : ℕ → Cargo) (N : ℕ) (tail : List ℕ) (ro
   pub walk-rows : (d : Dir) (a : Tree) (s : ℕ) (b : Bal) (z : Tree) (p : Way) → let t = plug p (branch d a s b z) in
       Fits N t → height t ≤ 14 → walkN 14 (holding t k c N tail) s d ≡ walkDir d a p
   walk-rows d a s b z p f h = ap (λ y. walkN 14 y s d) (sym (rows-held _ f)) ∙ walk-held bare roomy d a s b z p f h
+
+  -- beside: the empty place next to a record
+  pub beside-rows : (d : Dir) (a : Tree) (s : ℕ) (b : Bal) (z : Tree) (p : Way) → let t = plug p (branch d a s b z) in
+      Fits N t → height t ≤ 14 → besideN 14 (holding t k c N tail) s d ≡ (above (beside d a s b z p), side (beside d a s b z p))
+  beside-rows d a s b z p f h = ap (λ y. besideN 14 y s d) (sym (rows-held _ f)) ∙ beside-held bare roomy d a s b z p f h
 
   -- add, where the search has found a place for a record that is in no tree
   pub add-rows : (cmp : ℕ → Ordering) (t : Tree) (x n : ℕ) → entry cmp t .part ≡ leaf → Fits N t → New N t x → Balanced t → height t ≤ 14 → k x ≡ unlinked

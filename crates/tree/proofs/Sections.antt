@@ -90,7 +90,8 @@ split balance k c =
       is = λ v. simp append-assoc;
     }
 
-length-row : (k : Links) (c : Cargo) → length (c .rest) ≡ 17 → length (row k c) ≡ 32
+-- a record has 32 bytes
+pub length-row : (k : Links) (c : Cargo) → length (c .rest) ≡ 17 → length (row k c) ≡ 32
 unfolding row
 length-row k c h = simp (length-append, length-digits) (omega arith)
 
@@ -129,7 +130,7 @@ pub section-same : (k k₂ : ℕ → Links) (c : ℕ → Cargo) (N : ℕ) → ((
 section-same k k₂ c N h = rows-same k k₂ c 1 N (λ y p q. h y p (omega arith))
 
 -- a store over the middle of three lists
-splice-middle : (a old new b : List ℕ) (at : ℕ) → length a ≡ at → length old ≡ length new → splice (a ++ (old ++ b)) at new ≡ a ++ (new ++ b)
+pub splice-middle : (a old new b : List ℕ) (at : ℕ) → length a ≡ at → length old ≡ length new → splice (a ++ (old ++ b)) at new ≡ a ++ (new ++ b)
 splice-middle a old new b at p q =
     let e : at ≡ length a + 0 = omega arith in
     ap (λ i. splice (a ++ (old ++ b)) i new) e

@@ -53,6 +53,15 @@ module _ {N : ℕ} (m : List ℕ) (r : Roomy N m) where
       let up : depth p ≤ 14 = omega (arith, depth-plug p (branch d a s b z), h) in
       ap (λ n. walkN 14 n s d) (sym (at-plug p (branch d a s b z) m q)) ∙ walk-at 14 d a s b z p m r q low up
 
+  -- the empty place beside a record of the tree
+  pub beside-held : (d : Dir) (a : Tree) (s : ℕ) (b : Bal) (z : Tree) (p : Way) → let t = plug p (branch d a s b z) in
+      Fits N t → height t ≤ 14 → besideN 14 (over t 0 m) s d ≡ (above (beside d a s b z p), side (beside d a s b z p))
+  unfolding plug depth
+  beside-held d a s b z p f h =
+      let k = place-in p (branch d a s b z) f in
+      let low : height a ≤ 14 = omega (arith, depth-plug (step d s b z p) a, h) in
+      ap (λ y. besideN 14 y s d) (sym (at-plug p (branch d a s b z) m k)) ∙ beside-at 14 d a s b z p m r k low
+
   -- insert: a new record at an empty place
   pub insert-held : (p : Way) (x n : ℕ) → let t = plug p leaf in New N t x → Balanced t → height t ≤ 14 → Blank m x
       → insertN 14 (over t 0 m) (treeOf t n) x (above p) (side p) ≡ held (insert p x) (moreN n) m
@@ -72,15 +81,12 @@ module _ {N : ℕ} (m : List ℕ) (r : Roomy N m) where
   -- insert_here: a new record beside a record of the tree
   pub insert-here-held : (d : Dir) (a : Tree) (s : ℕ) (b : Bal) (z : Tree) (p : Way) (x n : ℕ) → let t = plug p (branch d a s b z) in
       Fits N t → New N t x → Balanced t → height t ≤ 14 → Blank m x → insertHereN 14 (over t 0 m) (treeOf t n) x s d ≡ held (insertHere d a s b z p x) (moreN n) m
-  unfolding insertHereN insertHere plug depth
+  unfolding insertHereN insertHere
   insert-here-held d a s b z p x n f g i h c =
       let t = plug p (branch d a s b z) in
       let q = beside d a s b z p in
       let e : plug q leaf ≡ t = beside-plug d a s b z p in
-      let k = place-in p (branch d a s b z) f in
-      let low : height a ≤ 14 = omega (arith, depth-plug (step d s b z p) a, h) in
-      let o = ap (λ y. besideN 14 y s d) (sym (at-plug p (branch d a s b z) m k)) ∙ beside-at 14 d a s b z p m r k low in
-      ap (λ (y : ℕ × Dir). insertN 14 (over t 0 m) (treeOf t n) x (y .0) (y .1)) o
+      ap (λ (y : ℕ × Dir). insertN 14 (over t 0 m) (treeOf t n) x (y .0) (y .1)) (beside-held d a s b z p f h)
       ∙ subst (λ (y : Tree). insertN 14 (over y 0 m) (treeOf y n) x (above q) (side q) ≡ held (insert q x) (moreN n) m) e
       (insert-held q x n (subst (λ (y : Tree). New N y x) (sym e) g) (subst Balanced (sym e) i) (subst (λ (y : Tree). height y ≤ 14) (sym e) h) c)
 

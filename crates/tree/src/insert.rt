@@ -89,7 +89,8 @@ fn grow(nodes: &mut [u8], t: AvlTree, x: u16, d: bool) -> AvlTree
     tree
 }
 
-fn more(c: u16) -> u16
+// A count one higher, within two bytes.
+pub fn more(c: u16) -> u16
     ensures { λ r. ⌜ r ≡ moreN c ⌝ }
 {
     if c == 65_535 {
@@ -124,12 +125,13 @@ pub fn insert(nodes: &mut [u8], t: AvlTree, x: u16, p: u16, d: Dir) -> AvlTree
 }
 
 // An empty place: the record that it hangs below, and its side.
-struct Spot {
-    parent: u16,
-    side: Dir,
+pub struct Spot {
+    pub parent: u16,
+    pub side: Dir,
 }
 
-fn beside(nodes: &[u8], here: u16, d: Dir) -> Spot
+// The empty place beside the record here, on side d of it; below no record where here is 0.
+pub fn beside(nodes: &[u8], here: u16, d: Dir) -> Spot
     ensures { λ r. ⌜ (r .parent, way (r .side .0)) ≡ besideN 14 (now (nodes .entry)) here (way (d .0)) ⌝ }
 {
     let c = get_child(nodes, here, d);

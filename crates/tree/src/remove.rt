@@ -158,7 +158,8 @@ fn unlink(nodes: &mut [u8], t: AvlTree, x: u16) -> AvlTree
     remove2(nodes, t, x, p, e)
 }
 
-fn less(c: u16) -> u16
+// A count one lower, not below 0.
+pub fn less(c: u16) -> u16
     ensures { λ r. ⌜ r ≡ lessN c ⌝ }
 {
     if c == 0 {

@@ -1,5 +1,4 @@
 -- `check`: 0 exactly if the pool is sound.
-use borrow.Author.Needs.{needs}
 use mathlib.Core.Path.{refl, sym, _∙_}
 use Rattle.meaning.specs.Doors.{check}
 use Rattle.pool.proofs.check.check.Statement.{statement}
@@ -7,9 +6,6 @@ use Rattle.pool.proofs.check.check.Tie as tie
 use Rattle.pool.proofs.check.check.Reads as reads
 use Rattle.pool.proofs.check.check.Lts as lts
 use Rattle.pool.proofs.check.is_sound.Reads as is-sound-reads
-
-is-sound-requires : tie.Need-is-sound-requires
-is-sound-requires c κs = search needs
 
 returns : tie.Need-returns
 unfolding check
@@ -20,4 +16,4 @@ unfolding check
 returns-2 c = simp (sym (c .before .is-sound .ensures) ∙ c .if1 .left) refl
 
 pub check-spec : {M : Type 1} → statement M
-check-spec = tie.close (tie.spec is-sound-requires returns returns-2)
+check-spec = tie.close (tie.spec (λ c κs. tt) returns returns-2)

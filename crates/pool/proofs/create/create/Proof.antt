@@ -6,9 +6,6 @@ use Rattle.pool.proofs.CreateSteps.{limits, refused, created}
 use Rattle.pool.proofs.create.create.Statement.{statement}
 use Rattle.pool.proofs.create.create.Tie as tie
 
-same-length : tie.Need-same-length
-same-length c = search needs
-
 returns : tie.Need-returns
 returns c =
     let s = c .before in
@@ -27,9 +24,6 @@ cast-t c =
     let a = i .before .before .before .before .args in
     omega (arith, limits (a .n) (a .t) (a .x) (now (a .buffer)) (i .before .sizes-ok .ensures) (i .if1 .left) .trees)
 
-same-length-2 : tie.Need-same-length-2
-same-length-2 c = search needs
-
 returns-2 : tie.Need-returns-2
 returns-2 c =
     let w = c .before .before in
@@ -42,4 +36,4 @@ returns-2 c =
 pub create-spec : {M : Type 1} → statement M
 create-spec =
     tie.close
-    (tie.spec (λ c κs. tt) same-length returns (λ c κs. tt) cast-n cast-t (λ c κs. tt) same-length-2 returns-2)
+    (tie.spec (λ c κs. tt) (λ c. search needs) returns (λ c κs. tt) cast-n cast-t (λ c κs. tt) (λ c. search needs) returns-2)

@@ -33,24 +33,6 @@ returns-5 c =
     (c .before .before .before .before .if1 .left) (c .before .before .before .if2 .left) (c .before .before .if3 .left)
     (c .before .if4 .left) (c .if5 .taken)
 
-mul-result : tie.Need-mul-result
-mul-result c = search needs
-
-add-result : tie.Need-add-result
-add-result c = search needs
-
-mul-result-2 : tie.Need-mul-result-2
-mul-result-2 c = search needs
-
-add-result-2 : tie.Need-add-result-2
-add-result-2 c = search needs
-
-add-result-3 : tie.Need-add-result-3
-add-result-3 c = search needs
-
-cast-result : tie.Need-cast-result
-cast-result c = search needs
-
 returns-6 : tie.Need-returns-6
 returns-6 c =
     let a = c .before .before .before .before .before .args in
@@ -61,4 +43,5 @@ returns-6 c =
 pub sizes-ok-spec : {M : Type 1} → statement M
 sizes-ok-spec =
     tie.close
-    (tie.spec returns returns-2 returns-3 returns-4 returns-5 mul-result add-result mul-result-2 add-result-2 add-result-3 cast-result returns-6)
+    (tie.spec returns returns-2 returns-3 returns-4 returns-5 (λ c. search needs) (λ c. search needs) (λ c. search needs)
+    (λ c. search needs) (λ c. search needs) (λ c. search needs) returns-6)

@@ -5,21 +5,6 @@ use Rattle.pool.proofs.CreateSteps.{stored}
 use Rattle.pool.proofs.create.write_header.Statement.{statement}
 use Rattle.pool.proofs.create.write_header.Tie as tie
 
-mul-records : tie.Need-mul-records
-mul-records c = search needs
-
-add-records : tie.Need-add-records
-add-records c = search needs
-
-mul-text : tie.Need-mul-text
-mul-text c = search needs
-
-add-text : tie.Need-add-text
-add-text c = search needs
-
-same-length : tie.Need-same-length
-same-length c = search needs
-
 returns : tie.Need-returns
 returns c =
     let c8 = c .before .before in
@@ -37,5 +22,5 @@ returns c =
 pub write-header-spec : {M : Type 1} → statement M
 write-header-spec =
     tie.close
-    (tie.spec mul-records add-records mul-text add-text (λ c κs. tt) (λ c κs. tt) (λ c κs. tt) (λ c κs. tt) (λ c κs. tt) (λ c κs. tt)
-    (λ c κs. tt) (λ c κs. tt) same-length returns)
+    (tie.spec (λ c. search needs) (λ c. search needs) (λ c. search needs) (λ c. search needs) (λ c κs. tt) (λ c κs. tt) (λ c κs. tt)
+    (λ c κs. tt) (λ c κs. tt) (λ c κs. tt) (λ c κs. tt) (λ c κs. tt) (λ c. search needs) returns)

@@ -1,18 +1,11 @@
 -- `is_match`: each answer by the test that gave it.
-use borrow.Author.Needs.{needs}
 use Rattle.pool.proofs.NameSteps.{match-free, match-stale, match-tree}
 use Rattle.pool.proofs.name.is_match.Statement.{statement}
 use Rattle.pool.proofs.name.is_match.Tie as tie
 
-get-u8-requires : tie.Need-get-u8-requires
-get-u8-requires c κs = search needs
-
 returns : tie.Need-returns
 returns c =
     match-free _ _ _ (c .before .get-u8 .ensures) (c .if1 .taken)
-
-get-u32-requires : tie.Need-get-u32-requires
-get-u32-requires c κs = search needs
 
 returns-2 : tie.Need-returns-2
 returns-2 c =
@@ -25,4 +18,4 @@ returns-3 c =
     (c .if2 .left)
 
 pub is-match-spec : {M : Type 1} → statement M
-is-match-spec = tie.close (tie.spec get-u8-requires returns get-u32-requires returns-2 returns-3)
+is-match-spec = tie.close (tie.spec (λ c κs. tt) returns (λ c κs. tt) returns-2 returns-3)

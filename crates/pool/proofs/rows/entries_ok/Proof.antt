@@ -14,27 +14,6 @@ abbrev μ-loop : tie.MeasureT-loop
 loop-holds : tie.Need-loop-holds Inv-loop μ-loop
 loop-holds c = pass-start _ _
 
-mul-entry-ok : tie.Need-mul-entry-ok Inv-loop μ-loop
-mul-entry-ok c = omega arith
-
-add-entry-ok : tie.Need-add-entry-ok Inv-loop μ-loop
-add-entry-ok c = omega arith
-
-mul-entry-ok-2 : tie.Need-mul-entry-ok-2 Inv-loop μ-loop
-mul-entry-ok-2 c = omega arith
-
-add-entry-ok-2 : tie.Need-add-entry-ok-2 Inv-loop μ-loop
-add-entry-ok-2 c = omega arith
-
-sub-entry-ok : tie.Need-sub-entry-ok Inv-loop μ-loop
-sub-entry-ok c = omega arith
-
-part-entry-ok-start : tie.Need-part-entry-ok-start Inv-loop μ-loop
-part-entry-ok-start c = omega arith
-
-part-entry-ok-end : tie.Need-part-entry-ok-end Inv-loop μ-loop
-part-entry-ok-end c = omega arith
-
 entry-ok-requires : tie.Need-entry-ok-requires Inv-loop μ-loop
 entry-ok-requires c κs = let i = c .before .before .loop .i in row-length _ (32 + 8 * i) (40 + 8 * i) 8 (omega arith) (omega arith)
 
@@ -42,12 +21,6 @@ returns : tie.Need-returns Inv-loop μ-loop
 returns c =
     let s = c .before .before .before in
     pass-stop (s .before .loop .inv) (s .loop-test .taken) (c .before .entry-ok .ensures) (c .if1 .taken)
-
-add-i : tie.Need-add-i Inv-loop μ-loop
-add-i c = omega arith
-
-loop-less : tie.Need-loop-less Inv-loop μ-loop
-loop-less c = omega arith
 
 loop-again : tie.Need-loop-again Inv-loop μ-loop
 loop-again c =
@@ -60,20 +33,5 @@ returns-2 c = pass-end (c .before .loop .inv) (c .loop-test .left)
 pub entries-ok-spec : {M : Type 1} → statement M
 entries-ok-spec =
     tie.close
-    (tie.spec
-    Inv-loop
-    μ-loop
-    loop-holds
-    mul-entry-ok
-    add-entry-ok
-    mul-entry-ok-2
-    add-entry-ok-2
-    sub-entry-ok
-    part-entry-ok-start
-    part-entry-ok-end
-    entry-ok-requires
-    returns
-    add-i
-    loop-less
-    loop-again
-    returns-2)
+    (tie.spec Inv-loop μ-loop loop-holds (λ c. omega arith) (λ c. omega arith) (λ c. omega arith) (λ c. omega arith) (λ c. omega arith)
+    (λ c. omega arith) (λ c. omega arith) entry-ok-requires returns (λ c. omega arith) (λ c. omega arith) loop-again returns-2)

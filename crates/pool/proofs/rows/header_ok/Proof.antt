@@ -4,34 +4,10 @@ use Rattle.pool.proofs.ClauseSteps.{header-1, header-2, header-3, heade
 use Rattle.pool.proofs.rows.header_ok.Statement.{statement}
 use Rattle.pool.proofs.rows.header_ok.Tie as tie
 
-get-u16-requires : tie.Need-get-u16-requires
-get-u16-requires c κs = search needs
-
-cast-n : tie.Need-cast-n
-cast-n c = search needs
-
-get-u16-requires-2 : tie.Need-get-u16-requires-2
-get-u16-requires-2 c κs = search needs
-
-cast-t : tie.Need-cast-t
-cast-t c = search needs
-
-get-u32-requires : tie.Need-get-u32-requires
-get-u32-requires c κs = search needs
-
-cast-x : tie.Need-cast-x
-cast-x c = search needs
-
-get-u16-requires-3 : tie.Need-get-u16-requires-3
-get-u16-requires-3 c κs = search needs
-
 returns : tie.Need-returns
 returns c =
     header-1 _ (c .before .before .before .before .get-u16 .ensures) (c .before .before .before .get-u162 .ensures)
     (c .before .before .get-u32 .ensures) (c .before .get-u163 .ensures) (c .if1 .taken)
-
-between-requires : tie.Need-between-requires
-between-requires c κs = search needs
 
 returns-2 : tie.Need-returns-2
 returns-2 c =
@@ -39,18 +15,12 @@ returns-2 c =
     header-2 _ (d .before .get-u16 .ensures) (d .get-u162 .ensures) (c .before .before .before .before .get-u32 .ensures)
     (c .before .before .before .get-u163 .ensures) (c .before .before .if1 .left) (c .before .between .ensures) (c .if2 .taken)
 
-between-requires-2 : tie.Need-between-requires-2
-between-requires-2 c κs = search needs
-
 returns-3 : tie.Need-returns-3
 returns-3 c =
     let d = c .before .before .before .before .before in
     header-3 _ (d .before .before .before .get-u16 .ensures) (d .before .before .get-u162 .ensures) (d .before .get-u32 .ensures)
     (d .get-u163 .ensures) (c .before .before .before .before .if1 .left) (c .before .before .before .between .ensures)
     (c .before .before .if2 .left) (c .before .between2 .ensures) (c .if3 .taken)
-
-get-u32-requires-2 : tie.Need-get-u32-requires-2
-get-u32-requires-2 c κs = search needs
 
 returns-4 : tie.Need-returns-4
 returns-4 c =
@@ -60,18 +30,6 @@ returns-4 c =
     (d .before .before .get-u163 .ensures) (d .before .if1 .left) (d .between .ensures) (c .before .before .before .before .if2 .left)
     (c .before .before .before .between2 .ensures) (c .before .before .if3 .left) (c .before .get-u322 .ensures) (c .if4 .taken)
 
-get-u32-requires-3 : tie.Need-get-u32-requires-3
-get-u32-requires-3 c κs = search needs
-
-cast-if5 : tie.Need-cast-if5
-cast-if5 c = search needs
-
-mul-if5 : tie.Need-mul-if5
-mul-if5 c = search needs
-
-add-if5 : tie.Need-add-if5
-add-if5 c = search needs
-
 returns-5 : tie.Need-returns-5
 returns-5 c =
     let d = c .before .before .before .before .before in
@@ -80,24 +38,6 @@ returns-5 c =
     (d .before .before .before .before .get-u163 .ensures) (d .before .before .before .if1 .left) (d .before .before .between .ensures)
     (d .before .if2 .left) (d .between2 .ensures) (c .before .before .before .before .if3 .left) (c .before .before .before .get-u322 .ensures)
     (c .before .before .if4 .left) (c .before .get-u323 .ensures) (c .if5 .taken)
-
-get-u32-requires-4 : tie.Need-get-u32-requires-4
-get-u32-requires-4 c κs = search needs
-
-cast-if6 : tie.Need-cast-if6
-cast-if6 c = search needs
-
-mul-if6 : tie.Need-mul-if6
-mul-if6 c = search needs
-
-add-if6 : tie.Need-add-if6
-add-if6 c = search needs
-
-mul-if6-2 : tie.Need-mul-if6-2
-mul-if6-2 c = search needs
-
-add-if6-2 : tie.Need-add-if6-2
-add-if6-2 c = search needs
 
 returns-6 : tie.Need-returns-6
 returns-6 c =
@@ -120,12 +60,6 @@ returns-7 c =
     (c .before .before .before .before .get-u323 .ensures) (c .before .before .before .if5 .left) (c .before .before .get-u324 .ensures)
     (c .before .if6 .left) (c .if7 .taken)
 
-get-u32-requires-5 : tie.Need-get-u32-requires-5
-get-u32-requires-5 c κs = search needs
-
-cast-if8 : tie.Need-cast-if8
-cast-if8 c = search needs
-
 returns-8 : tie.Need-returns-8
 returns-8 c =
     let d = c .before .before .before .before .before in
@@ -136,9 +70,6 @@ returns-8 c =
     (e .before .if2 .left) (e .between2 .ensures) (d .before .before .before .before .if3 .left) (d .before .before .before .get-u322 .ensures)
     (d .before .before .if4 .left) (d .before .get-u323 .ensures) (d .if5 .left) (c .before .before .before .before .get-u324 .ensures)
     (c .before .before .before .if6 .left) (c .before .before .if7 .left) (c .before .get-u325 .ensures) (c .if8 .taken)
-
-get-u32-requires-6 : tie.Need-get-u32-requires-6
-get-u32-requires-6 c κs = search needs
 
 returns-9 : tie.Need-returns-9
 returns-9 c =
@@ -151,21 +82,6 @@ returns-9 c =
     (d .before .before .before .before .if4 .left) (d .before .before .before .get-u323 .ensures) (d .before .before .if5 .left)
     (d .before .get-u324 .ensures) (d .if6 .left) (c .before .before .before .before .if7 .left) (c .before .before .before .get-u325 .ensures)
     (c .before .before .if8 .left) (c .before .get-u326 .ensures) (c .if9 .taken)
-
-mul-result : tie.Need-mul-result
-mul-result c = search needs
-
-add-result : tie.Need-add-result
-add-result c = search needs
-
-mul-result-2 : tie.Need-mul-result-2
-mul-result-2 c = search needs
-
-add-result-2 : tie.Need-add-result-2
-add-result-2 c = search needs
-
-add-result-3 : tie.Need-add-result-3
-add-result-3 c = search needs
 
 returns-10 : tie.Need-returns-10
 returns-10 c =
@@ -182,42 +98,8 @@ returns-10 c =
 pub header-ok-spec : {M : Type 1} → statement M
 header-ok-spec =
     tie.close
-    (tie.spec
-    get-u16-requires
-    cast-n
-    get-u16-requires-2
-    cast-t
-    get-u32-requires
-    cast-x
-    get-u16-requires-3
-    returns
-    between-requires
-    returns-2
-    between-requires-2
-    returns-3
-    get-u32-requires-2
-    returns-4
-    get-u32-requires-3
-    cast-if5
-    mul-if5
-    add-if5
-    returns-5
-    get-u32-requires-4
-    cast-if6
-    mul-if6
-    add-if6
-    mul-if6-2
-    add-if6-2
-    returns-6
-    returns-7
-    get-u32-requires-5
-    cast-if8
-    returns-8
-    get-u32-requires-6
-    returns-9
-    mul-result
-    add-result
-    mul-result-2
-    add-result-2
-    add-result-3
-    returns-10)
+    (tie.spec (λ c κs. tt) (λ c. search needs) (λ c κs. tt) (λ c. search needs) (λ c κs. tt) (λ c. search needs) (λ c κs. tt) returns
+    (λ c κs. tt) returns-2 (λ c κs. tt) returns-3 (λ c κs. tt) returns-4 (λ c κs. tt) (λ c. search needs) (λ c. search needs)
+    (λ c. search needs) returns-5 (λ c κs. tt) (λ c. search needs) (λ c. search needs) (λ c. search needs) (λ c. search needs)
+    (λ c. search needs) returns-6 returns-7 (λ c κs. tt) (λ c. search needs) returns-8 (λ c κs. tt) returns-9 (λ c. search needs)
+    (λ c. search needs) (λ c. search needs) (λ c. search needs) (λ c. search needs) returns-10)

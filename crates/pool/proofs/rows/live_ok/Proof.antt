@@ -4,28 +4,13 @@ use Rattle.pool.proofs.ClauseSteps.{live-1, live-2, live-3, live-4, liv
 use Rattle.pool.proofs.rows.live_ok.Statement.{statement}
 use Rattle.pool.proofs.rows.live_ok.Tie as tie
 
-get-u8-requires : tie.Need-get-u8-requires
-get-u8-requires c κs = search needs
-
 returns : tie.Need-returns
 returns c = live-1 _ _ _ _ (c .before .get-u8 .ensures) (c .if1 .taken)
-
-get-u8-requires-2 : tie.Need-get-u8-requires-2
-get-u8-requires-2 c κs = search needs
-
-cast-between : tie.Need-cast-between
-cast-between c = search needs
-
-between-requires : tie.Need-between-requires
-between-requires c κs = search needs
 
 returns-2 : tie.Need-returns-2
 returns-2 c =
     live-2 _ _ _ _ (c .before .before .before .before .get-u8 .ensures) (c .before .before .before .if1 .left)
     (c .before .before .get-u82 .ensures) (c .before .between .ensures) (c .if2 .taken)
-
-get-u32-requires : tie.Need-get-u32-requires
-get-u32-requires c κs = search needs
 
 returns-3 : tie.Need-returns-3
 returns-3 c =
@@ -40,15 +25,6 @@ returns-4 c =
     (c .before .before .before .before .between .ensures) (c .before .before .before .if2 .left) (c .before .before .get-u32 .ensures)
     (c .before .if3 .left) (c .if4 .taken)
 
-get-u16-requires : tie.Need-get-u16-requires
-get-u16-requires c κs = search needs
-
-cast-len : tie.Need-cast-len
-cast-len c = search needs
-
-between-requires-2 : tie.Need-between-requires-2
-between-requires-2 c κs = search needs
-
 returns-5 : tie.Need-returns-5
 returns-5 c =
     let d = c .before .before .before .before .before in
@@ -56,15 +32,6 @@ returns-5 c =
     live-5 _ _ _ _ (e .get-u8 .ensures) (d .before .before .before .before .if1 .left) (d .before .before .before .get-u82 .ensures)
     (d .before .before .between .ensures) (d .before .if2 .left) (d .get-u32 .ensures) (c .before .before .before .before .if3 .left)
     (c .before .before .before .if4 .left) (c .before .before .get-u16 .ensures) (c .before .between2 .ensures) (c .if5 .taken)
-
-get-u32-requires-2 : tie.Need-get-u32-requires-2
-get-u32-requires-2 c κs = search needs
-
-cast-if6 : tie.Need-cast-if6
-cast-if6 c = search needs
-
-add-if6 : tie.Need-add-if6
-add-if6 c = search needs
 
 returns-6 : tie.Need-returns-6
 returns-6 c =
@@ -74,9 +41,6 @@ returns-6 c =
     (d .before .before .before .before .between .ensures) (d .before .before .before .if2 .left) (d .before .before .get-u32 .ensures)
     (d .before .if3 .left) (d .if4 .left) (c .before .before .before .before .get-u16 .ensures) (c .before .before .before .between2 .ensures)
     (c .before .before .if5 .left) (c .before .get-u322 .ensures) (c .if6 .taken)
-
-all-zero-requires : tie.Need-all-zero-requires
-all-zero-requires c κs = search needs
 
 returns-7 : tie.Need-returns-7
 returns-7 c =
@@ -91,23 +55,5 @@ returns-7 c =
 pub live-ok-spec : {M : Type 1} → statement M
 live-ok-spec =
     tie.close
-    (tie.spec
-    get-u8-requires
-    returns
-    get-u8-requires-2
-    cast-between
-    between-requires
-    returns-2
-    get-u32-requires
-    returns-3
-    returns-4
-    get-u16-requires
-    cast-len
-    between-requires-2
-    returns-5
-    get-u32-requires-2
-    cast-if6
-    add-if6
-    returns-6
-    all-zero-requires
-    returns-7)
+    (tie.spec (λ c κs. tt) returns (λ c κs. tt) (λ c. search needs) (λ c κs. tt) returns-2 (λ c κs. tt) returns-3 returns-4 (λ c κs. tt)
+    (λ c. search needs) (λ c κs. tt) returns-5 (λ c κs. tt) (λ c. search needs) (λ c. search needs) returns-6 (λ c κs. tt) returns-7)

@@ -4,23 +4,13 @@ use Rattle.pool.proofs.ClauseSteps.{record-free, record-live}
 use Rattle.pool.proofs.rows.record_ok.Statement.{statement}
 use Rattle.pool.proofs.rows.record_ok.Tie as tie
 
-get-u8-requires : tie.Need-get-u8-requires
-get-u8-requires c κs = search needs
-
-all-zero-requires : tie.Need-all-zero-requires
-all-zero-requires c κs = search needs
-
 returns : tie.Need-returns
 returns c =
     record-free _ _ _ _ (c .before .before .get-u8 .ensures) (c .before .if1 .taken) (c .before .before .before .before .pre)
     (c .all-zero .ensures)
 
-live-ok-requires : tie.Need-live-ok-requires
-live-ok-requires c κs = search needs
-
 returns-2 : tie.Need-returns-2
 returns-2 c = record-live _ _ _ _ (c .before .before .get-u8 .ensures) (c .before .if1 .left) (c .live-ok .ensures)
 
 pub record-ok-spec : {M : Type 1} → statement M
-record-ok-spec =
-    tie.close (tie.spec get-u8-requires all-zero-requires returns live-ok-requires returns-2)
+record-ok-spec = tie.close (tie.spec (λ c κs. tt) (λ c κs. tt) returns (λ c κs. search needs) returns-2)

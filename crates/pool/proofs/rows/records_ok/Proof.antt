@@ -15,30 +15,6 @@ abbrev μ-loop : tie.MeasureT-loop
 loop-holds : tie.Need-loop-holds Inv-loop μ-loop
 loop-holds c = count-start _ _ _ _ _ _
 
-mul-r : tie.Need-mul-r Inv-loop μ-loop
-mul-r c = omega arith
-
-add-r : tie.Need-add-r Inv-loop μ-loop
-add-r c = omega arith
-
-mul-r-2 : tie.Need-mul-r-2 Inv-loop μ-loop
-mul-r-2 c = omega arith
-
-add-r-2 : tie.Need-add-r-2 Inv-loop μ-loop
-add-r-2 c = omega arith
-
-add-r-3 : tie.Need-add-r-3 Inv-loop μ-loop
-add-r-3 c = omega arith
-
-sub-r : tie.Need-sub-r Inv-loop μ-loop
-sub-r c = omega arith
-
-part-r-start : tie.Need-part-r-start Inv-loop μ-loop
-part-r-start c = omega arith
-
-part-r-end : tie.Need-part-r-end Inv-loop μ-loop
-part-r-end c = omega arith
-
 record-ok-requires : tie.Need-record-ok-requires Inv-loop μ-loop
 record-ok-requires c κs =
     let from = c .before .before .before .before .args .at + 32 * c .before .before .loop .i in
@@ -48,24 +24,6 @@ returns : tie.Need-returns Inv-loop μ-loop
 returns c =
     let s = c .before .before .before in
     count-stop (s .before .loop .inv) (s .loop-test .taken) (c .before .record-ok .ensures) (c .if1 .taken)
-
-get-u8-requires : tie.Need-get-u8-requires Inv-loop μ-loop
-get-u8-requires c κs = tt
-
-add-live : tie.Need-add-live Inv-loop μ-loop
-add-live c = omega arith
-
-add-free : tie.Need-add-free Inv-loop μ-loop
-add-free c = omega arith
-
-cast-free : tie.Need-cast-free Inv-loop μ-loop
-cast-free c = omega arith
-
-add-i : tie.Need-add-i Inv-loop μ-loop
-add-i c = omega arith
-
-loop-less : tie.Need-loop-less Inv-loop μ-loop
-loop-less c = omega arith
 
 loop-again : tie.Need-loop-again Inv-loop μ-loop
 loop-again c =
@@ -84,25 +42,6 @@ returns-2 c = count-end (c .before .loop .inv) (c .loop-test .left)
 pub records-ok-spec : {M : Type 1} → statement M
 records-ok-spec =
     tie.close
-    (tie.spec
-    Inv-loop
-    μ-loop
-    loop-holds
-    mul-r
-    add-r
-    mul-r-2
-    add-r-2
-    add-r-3
-    sub-r
-    part-r-start
-    part-r-end
-    record-ok-requires
-    returns
-    get-u8-requires
-    add-live
-    add-free
-    cast-free
-    add-i
-    loop-less
-    loop-again
-    returns-2)
+    (tie.spec Inv-loop μ-loop loop-holds (λ c. omega arith) (λ c. omega arith) (λ c. omega arith) (λ c. omega arith) (λ c. omega arith)
+    (λ c. omega arith) (λ c. omega arith) (λ c. omega arith) record-ok-requires returns (λ c κs. tt) (λ c. omega arith) (λ c. omega arith)
+    (λ c. omega arith) (λ c. omega arith) (λ c. omega arith) loop-again returns-2)

@@ -99,12 +99,6 @@ link-returns-5 t c =
     link-parent _ _ _ _ _ _ _ (d .before .if1 .left) _ (d .if2 .left) (g .before .if3 .left) (g .get-tree .ensures)
     (p .before .if4 .left) (p .get-parent .ensures) (c .before .if5 .taken) (c .bad4 .ensures)
 
-link-sub : (t : ℕ) → link-lts.Need-sub-check-record (link-calls t) (link-at t) link.Post
-link-sub t c = omega arith
-
-link-asks : (t : ℕ) → link-lts.Need-check-record-requires (link-calls t) (link-at t) link.Post
-link-asks t c κs = omega arith
-
 link-returns-6 : (t : ℕ) → link-lts.Need-returns-6 (link-calls t) (link-at t) link.Post
 link-returns-6 t c =
     let p = c .before .before in
@@ -112,9 +106,6 @@ link-returns-6 t c =
     let d = g .before .before in
     link-record _ _ _ _ _ _ _ (d .before .if1 .left) _ (d .if2 .left) (g .before .if3 .left) (g .get-tree .ensures)
     (p .before .if4 .left) (p .get-parent .ensures) (c .before .if5 .left) (c .check-record .ensures)
-
-rec-asks : (t : ℕ) → rec-lts.Need-check-link-requires (rec-calls t) (rec-at t) rec.Post
-rec-asks t c κs = omega arith
 
 rec-returns : (t : ℕ) → rec-lts.Need-returns (rec-calls t) (rec-at t) rec.Post
 rec-returns t c =
@@ -135,12 +126,6 @@ rec-returns-3 t c =
     record-order _ _ _ _ _ _ _ (l .before .get-child .ensures) (l .check-link .ensures) (d .if1 .left) (k .before .if2 .left)
     (k .get-key .ensures) (c .before .before .is-after .ensures) (c .before .if3 .taken) (c .bad3 .ensures)
 
-rec-add : (t : ℕ) → rec-lts.Need-add-check-link (rec-calls t) (rec-at t) rec.Post
-rec-add t c = omega arith
-
-rec-asks-2 : (t : ℕ) → rec-lts.Need-check-link-requires-2 (rec-calls t) (rec-at t) rec.Post
-rec-asks-2 t c κs = omega arith
-
 rec-returns-4 : (t : ℕ) → rec-lts.Need-returns-4 (rec-calls t) (rec-at t) rec.Post
 rec-returns-4 t c =
     let a = c .before .before .before .before in
@@ -153,46 +138,12 @@ rec-returns-4 t c =
 
 pub +check-link+check-record-spec : {M : Type 1} → statement M
 +check-link+check-record-spec =
-    close
-    μ-link
-    μ-rec
+    close μ-link μ-rec
     (λ t.
-    link-lts.spec
-    (link-calls t)
-    (link-at t)
-    link.Post
-    (link-returns t)
-    (λ c κs. tt)
-    (link-returns-2 t)
-    (λ c κs. tt)
-    (link-returns-3 t)
-    (λ c κs. tt)
-    (λ c κs. tt)
-    (link-returns-4 t)
-    (λ c κs. tt)
-    (λ c κs. tt)
-    (link-returns-5 t)
-    (link-sub t)
-    (link-asks t)
+    link-lts.spec (link-calls t) (link-at t) link.Post (link-returns t) (λ c κs. tt) (link-returns-2 t) (λ c κs. tt) (link-returns-3 t)
+    (λ c κs. tt) (λ c κs. tt) (link-returns-4 t) (λ c κs. tt) (λ c κs. tt) (link-returns-5 t) (λ c. omega arith) (λ c κs. omega arith)
     (link-returns-6 t))
-    λ t.
-    rec-lts.spec
-    (rec-calls t)
-    (rec-at t)
-    rec.Post
-    (λ c κs. tt)
-    (rec-asks t)
-    (λ c κs. tt)
-    (rec-returns t)
-    (λ c κs. tt)
-    (rec-returns-2 t)
-    (λ c κs. tt)
-    (λ c κs. tt)
-    (λ c κs. tt)
-    (rec-returns-3 t)
-    (λ c κs. tt)
-    (rec-add t)
-    (rec-asks-2 t)
-    (λ c κs. tt)
-    (λ c κs. tt)
-    (rec-returns-4 t)
+    (λ t.
+    rec-lts.spec (rec-calls t) (rec-at t) rec.Post (λ c κs. tt) (λ c κs. omega arith) (λ c κs. tt) (rec-returns t) (λ c κs. tt)
+    (rec-returns-2 t) (λ c κs. tt) (λ c κs. tt) (λ c κs. tt) (rec-returns-3 t) (λ c κs. tt) (λ c. omega arith) (λ c κs. omega arith)
+    (λ c κs. tt) (λ c κs. tt) (rec-returns-4 t))

@@ -9,18 +9,9 @@ returns : tie.Need-returns
 unfolding treeN
 returns c = simp (eq-eqb _ _ (c .if1 .taken))
 
-sub-get-u8 : tie.Need-sub-get-u8
-sub-get-u8 c = search needs
-
-mul-get-u8 : tie.Need-mul-get-u8
-mul-get-u8 c = search needs
-
-add-get-u8 : tie.Need-add-get-u8
-add-get-u8 c = search needs
-
 returns-2 : tie.Need-returns-2
 unfolding treeN
 returns-2 c = simp (ne-eqb _ _ (c .before .if1 .left)) (c .get-u8 .ensures)
 
 pub get-tree-spec : {M : Type 1} → statement M
-get-tree-spec = tie.close (tie.spec returns sub-get-u8 mul-get-u8 add-get-u8 (λ c κs. tt) returns-2)
+get-tree-spec = tie.close (tie.spec returns (λ c. search needs) (λ c. search needs) (λ c. search needs) (λ c κs. tt) returns-2)

@@ -17,14 +17,8 @@ returns-2 c = simp (le-leb _ _ (c .before .if1 .left), lt-leb _ _ (c .if2 .taken
 returns-3 : tie.Need-returns-3
 returns-3 c = even-level _ _ _ (c .before .before .if1 .left) (c .before .if2 .left) (c .if3 .taken)
 
-add-result : tie.Need-add-result
-add-result c = search needs
-
 returns-4 : tie.Need-returns-4
 returns-4 c = even-rightward _ _ _ (c .before .before .before .if1 .left) (c .before .before .if2 .left) (c .if4 .taken)
-
-add-result-2 : tie.Need-add-result-2
-add-result-2 c = search needs
 
 returns-5 : tie.Need-returns-5
 returns-5 c = even-leftward _ _ _ (c .before .before .before .before .if1 .left) (c .before .before .before .if2 .left) (c .if5 .taken)
@@ -35,4 +29,4 @@ returns-6 c =
     even-other _ _ _ (low .before .if1 .left) (low .if2 .left) (c .before .before .if3 .left) (c .before .if4 .left) (c .if5 .left)
 
 pub is-even-spec : {M : Type 1} → statement M
-is-even-spec = tie.close (tie.spec returns returns-2 returns-3 add-result returns-4 add-result-2 returns-5 returns-6)
+is-even-spec = tie.close (tie.spec returns returns-2 returns-3 (λ c. search needs) returns-4 (λ c. search needs) returns-5 returns-6)

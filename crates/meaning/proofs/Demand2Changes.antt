@@ -1,0 +1,265 @@
+-- Demand 2, the ops that change the pool, over the lists alone: what is added and removed, what stays as it was, and the shape of the tree after it.
+-- Assumes nothing.
+use mathlib.Core.Bool.{Bool, true, false, not, cond}
+use mathlib.Core.List.{List, [], _∷_, _++_}
+use mathlib.Core.Option.{Option, none, some}
+use mathlib.Core.Path.{_≡_, refl, sym, ap, ap₂, _∙_, subst}
+use Prim.Native.Nat.{ℕ, suc}
+use native.Mathlib.Omega.{arith}
+use lib.Dec.{leb, ltb, eqb}
+use lib.ListN.{length}
+use borrow.Author.Tests.{eq-eqb, le-leb}
+use Rattle.avl.specs.Tree.{left, list}
+use Rattle.avl.specs.Search.{add, removeByKey}
+use Rattle.meaning.specs.Layout.{within}
+use Rattle.meaning.specs.Pool.{Rec, Pool, recAt, treeAt}
+use Rattle.meaning.specs.Change.{withTrees, withText, byKeyIn, added, removed, freeSlot, addRec, dropRec, emptied, opening, noted, rolledBack}
+use Rattle.meaning.specs.Cursor.{Command, Cursor, nowhere, State, kind, treeOf, noRecord, gone}
+use Rattle.meaning.specs.Command.{Act, Done, takenOut, takeOut, addNew, silent, openMark, rollBack, commit, reset, op_means_does_then_, ops, opIn, opOf, meant, badTree, noneThere, among, adding, refusal, answer, Performed, carriedOut, perform}
+use Rattle.meaning.specs.WellFormed.{WellFormed}
+use Rattle.meaning.specs.Meant.{Entry, entriesOf, lookup, isNone, insertByKey, without, newEntry, shown, ofKey, sights, sightIn, seen, removing}
+use Rattle.meaning.proofs.Acts.{add-trees, add-lives}
+use Rattle.meaning.proofs.Adding.{adding-ok}
+use Rattle.meaning.proofs.Chains.{firstMet, testsOf, testsIn}
+use Rattle.meaning.proofs.Commands.{markedAt, perform-good}
+use Rattle.meaning.proofs.Demand1.{tests-of-op}
+use Rattle.meaning.proofs.Demand2Looks.{looks, none-is}
+use Rattle.meaning.proofs.Entries.{entryAt, entry-live, entry-slot, entry-key, answer-shows, lookup-absent}
+use Rattle.meaning.proofs.EntryChanges.{add-text, add-next, add-entry, add-entries, add-others, add-other-trees, add-tree, drop-text, drop-next, drop-entries, drop-others, drop-other-trees, drop-tree, emptied-entries}
+use Rattle.meaning.proofs.Facts.{both-true}
+use Rattle.meaning.proofs.Formed.{not-both, live-key}
+use Rattle.meaning.proofs.Good.{GoodState, Parsed}
+use Rattle.meaning.proofs.Members.{Lives}
+use Rattle.meaning.proofs.Seen.{done-is, finds, removing-takes, adding-adds}
+use Rattle.meaning.proofs.Tables.{tree-is}
+
+-- ---- adding
+
+-- the command has added the entry e to tree t: the tree's list has it at the place of its key and the other lists are as they were; the name stands
+-- behind the text that there was, the next stamp is one more, and the answer shows the entry. The tree's shape is that of the Rust's `add`
+pub record Added (s : State) (c : Command) (t : ℕ) (e : Entry) : Type 0 where
+  pub list : entriesOf (perform s c .state .pool) t ≡ insertByKey e (entriesOf (s .pool) t)
+  pub others : (u : ℕ) → (u ≡ t → ⊥) → entriesOf (perform s c .state .pool) u ≡ entriesOf (s .pool) u
+  pub text : perform s c .state .pool .text ≡ s .pool .text ++ e .name
+  pub next : perform s c .state .pool .next ≡ suc (s .pool .next)
+  pub mark : perform s c .state .mark ≡ noted (added (e .slot)) (s .mark)
+  pub cursor : perform s c .state .cursor ≡ opOf c .then s c (e .slot)
+  pub answer : perform s c .answer ≡ shown 0 (kind (perform s c .state .cursor)) (some e)
+  pub shape : treeAt (perform s c .state .pool) t ≡ add (byKeyIn (s .pool) (e .key)) (e .slot) (treeAt (s .pool) t)
+  pub other-shapes : (u : ℕ) → (u ≡ t → ⊥) → treeAt (perform s c .state .pool) u ≡ treeAt (s .pool) u
+
+-- the pool after one of the ops that add
+adds-pool : (w : Option Pool) (s : State) (c : Command) → Parsed c → GoodState w s → adding (c .op) ≡ true → refusal s c ≡ 0
+    → perform s c .state .pool ≡ addRec (treeOf s c) (c .key) (c .name) (s .pool)
+unfolding carriedOut addNew adding
+adds-pool w s c parsed g h z =
+    let o = opOf c in
+    ap (λ (y : Performed). y .state .pool) (done-is s c z) ∙ ap (λ (f : Act). f s c (o .means s c) .pool) (adding-adds c h)
+
+-- Ops 1, 16 to 20, 24 and 25 add the command's key and name, in the lowest free slot and with the next stamp, to their tree.
+pub adds : (w : Option Pool) (s : State) (c : Command) → Parsed c → GoodState w s → adding (c .op) ≡ true → refusal s c ≡ 0
+    → Added s c (treeOf s c) (newEntry (s .pool) (c .key) (c .name))
+unfolding carriedOut addNew newEntry adding
+adds w s c parsed g h z =
+    let o = opOf c in
+    let p = s .pool in
+    let t = treeOf s c in
+    let k = c .key in
+    let n = c .name in
+    let good = g .pool in
+    let a = adding-ok w s c parsed g h z in
+    let q = done-is s c z in
+    let d : o .does s c (o .means s c) ≡ addNew s c (o .means s c) = ap (λ (f : Act). f s c (o .means s c)) (adding-adds c h) in
+    let pool = adds-pool w s c parsed g h z in
+    let now = ap (λ (y : Performed). y .state .cursor) q in
+    let kept = perform-good w s c parsed g .pool in
+    let j = kind (carriedOut o s c .state .cursor) in
+    record {
+      list = ap (λ (y : Pool). entriesOf y t) pool ∙ add-entries p t k n good a;
+      others = λ u i. ap (λ (y : Pool). entriesOf y u) pool ∙ add-others p t k n good a u i;
+      text = ap (λ (y : Pool). y .text) pool ∙ add-text p t k n good a;
+      next = ap (λ (y : Pool). y .next) pool ∙ add-next p t k n good a;
+      mark = ap (λ (y : Performed). y .state .mark) q ∙ ap (λ (y : Done). y .mark) d;
+      cursor = now ∙ ap (λ (y : Done). o .then s c (y .shown)) d;
+      answer =
+          ap (λ (y : Performed). y .answer) q
+          ∙ ap (λ (y : Done). answer 0 j (y .shown) (y .rec)) d
+          ∙ answer-shows (addRec t k n p) (subst WellFormed pool kept) 0 j (freeSlot p)
+          ∙ ap₂ (λ (m : Cursor) (y : Option Entry). shown 0 (kind m) y) (sym now)
+          (entry-live (addRec t k n p) (add-lives p t k n good a) ∙ ap (λ (y : Entry). some y) (add-entry p t k n good a));
+      shape = ap (λ (y : Pool). treeAt y t) pool ∙ add-tree p t k n good a;
+      other-shapes = λ u i. ap (λ (y : Pool). treeAt y u) pool ∙ add-other-trees p t k n good a u i;
+    }
+
+-- ---- removing
+
+-- the command has removed the entry e from tree t: the tree's list is without its slot and the other lists are as they were, as are the text and the
+-- next stamp, and the answer shows the entry as it was. The tree's shape is that of the Rust's `remove`
+pub record Removed (s : State) (c : Command) (t : ℕ) (e : Entry) : Type 0 where
+  pub list : entriesOf (perform s c .state .pool) t ≡ without (e .slot) (entriesOf (s .pool) t)
+  pub others : (u : ℕ) → (u ≡ t → ⊥) → entriesOf (perform s c .state .pool) u ≡ entriesOf (s .pool) u
+  pub text : perform s c .state .pool .text ≡ s .pool .text
+  pub next : perform s c .state .pool .next ≡ s .pool .next
+  pub rec : Rec
+  pub was : recAt (s .pool) (e .slot) ≡ some rec
+  pub mark : perform s c .state .mark ≡ noted (removed (e .slot) rec) (s .mark)
+  pub cursor : perform s c .state .cursor ≡ opOf c .then s c (e .slot)
+  pub answer : perform s c .answer ≡ shown 0 (kind (perform s c .state .cursor)) (some e)
+  pub shape : treeAt (perform s c .state .pool) t ≡ removeByKey (byKeyIn (s .pool) (e .key)) (treeAt (s .pool) t)
+  pub other-shapes : (u : ℕ) → (u ≡ t → ⊥) → treeAt (perform s c .state .pool) u ≡ treeAt (s .pool) u
+
+module _ (w : Option Pool) (s : State) (c : Command) (g : GoodState w s) where
+  -- What an op that takes a live record out leaves.
+  pub removed-it : (t x : ℕ) (l : Lives (s .pool) t x) → meant s c ≡ x → opOf c .does ≡ takeOut → refusal s c ≡ 0 → Removed s c t (entryAt (s .pool) x)
+  unfolding carriedOut takeOut takenOut meant
+  removed-it t x l i h z =
+      let o = opOf c in
+      let p = s .pool in
+      let good = g .pool in
+      let r = l .rec in
+      let q = done-is s c z in
+      let d : o .does s c (o .means s c) ≡ takenOut s x (some r) =
+      ap₂ (λ (f : Act) (y : ℕ). f s c y) h i ∙ ap (takenOut s x) (l .is) in
+      let pool : perform s c .state .pool ≡ dropRec x r p = ap (λ (y : Performed). y .state .pool) q ∙ ap (λ (y : Done). y .pool) d in
+      let now = ap (λ (y : Performed). y .state .cursor) q in
+      let slot : entryAt p x .slot ≡ x = entry-slot p l in
+      let key : r .key ≡ entryAt p x .key = sym (entry-key p x ∙ live-key p x r (l .is)) in
+      let home : r .tree ≡ t = l .tree-is in
+      let j = kind (carriedOut o s c .state .cursor) in
+      record {
+        list =
+            ap (λ (y : Pool). entriesOf y t) pool
+            ∙ subst (λ (u : ℕ). entriesOf (dropRec x r p) u ≡ without x (entriesOf p u)) home (drop-entries p x r good (l .is))
+            ∙ ap (λ (y : ℕ). without y (entriesOf p t)) (sym slot);
+        others = λ u n. ap (λ (y : Pool). entriesOf y u) pool ∙ drop-others p x r good (l .is) u (λ e. n (e ∙ home));
+        text = ap (λ (y : Pool). y .text) pool ∙ drop-text p x r good (l .is);
+        next = ap (λ (y : Pool). y .next) pool ∙ drop-next p x r good (l .is);
+        rec = r;
+        was = ap (recAt p) slot ∙ l .is;
+        mark =
+            ap (λ (y : Performed). y .state .mark) q ∙ ap (λ (y : Done). y .mark) d
+            ∙ ap (λ (y : ℕ). noted (removed y r) (s .mark)) (sym slot);
+        cursor = now ∙ ap (λ (y : Done). o .then s c (y .shown)) d ∙ ap (o .then s c) (sym slot);
+        answer =
+            ap (λ (y : Performed). y .answer) q
+            ∙ ap (λ (y : Done). answer 0 j (y .shown) (y .rec)) d
+            ∙ ap (answer 0 j x) (sym (l .is))
+            ∙ answer-shows p good 0 j x
+            ∙ ap₂ (λ (m : Cursor) (y : Option Entry). shown 0 (kind m) y) (sym now) (entry-live p l);
+        shape =
+            ap (λ (y : Pool). treeAt y t) pool
+            ∙ subst (λ (u : ℕ). treeAt (dropRec x r p) u ≡ removeByKey (byKeyIn p (r .key)) (treeAt p u)) home (drop-tree p x r good (l .is))
+            ∙ ap (λ (y : ℕ). removeByKey (byKeyIn p y) (treeAt p t)) key;
+        other-shapes = λ u n. ap (λ (y : Pool). treeAt y u) pool ∙ drop-other-trees p x r good (l .is) u (λ e. n (e ∙ home));
+      }
+
+  -- Ops 3, 4 and 21 to 23 remove the entry that the table `sights` gives for them over the lists.
+  pub removes : removing (c .op) ≡ true → refusal s c ≡ 0 → (e : Entry) × (seen (s .pool) (s .cursor) c ≡ some e) × Removed s c (treeOf s c) e
+  removes h z =
+      let f = finds w s c g h z in
+      let l = f .0 in
+      (entryAt (s .pool) (meant s c), sym (f .1) ∙ entry-live (s .pool) l, removed-it (treeOf s c) (meant s c) l refl (removing-takes c h) z)
+
+-- ---- a get after a done add
+
+lookup-insert : (e : Entry) (l : List Entry) → lookup (e .key) l ≡ none → lookup (e .key) (insertByKey e l) ≡ some e
+unfolding lookup insertByKey
+lookup-insert e [] h = ap (λ (b : Bool). cond b (some e) none) (eq-eqb (e .key) (e .key) refl)
+lookup-insert e (f ∷ l) h = go (ltb (e .key) (f .key)) (eqb (f .key) (e .key)) refl h (lookup-insert e l)
+  where
+    go : (a b : Bool) → eqb (f .key) (e .key) ≡ b → cond b (some f) (lookup (e .key) l) ≡ none
+        → (lookup (e .key) l ≡ none → lookup (e .key) (insertByKey e l) ≡ some e) → lookup (e .key) (cond a (e ∷ f ∷ l) (f ∷ insertByKey e l)) ≡ some e
+    go true b i n k = ap (λ (c : Bool). cond c (some e) (lookup (e .key) (f ∷ l))) (eq-eqb (e .key) (e .key) refl)
+    go false true i n k = absurd (not-both (some f) refl n)
+    go false false i n k = ap (λ (c : Bool). cond c (some f) (lookup (e .key) (insertByKey e l))) i ∙ k n
+
+get-passes : (w : Option Pool) (s : State) (c : Command) → Parsed c → GoodState w s → adding (c .op) ≡ true → refusal s c ≡ 0
+    → (get : Command) → get .op ≡ 2 → get .tree ≡ treeOf s c → isNone (seen (perform s c .state .pool) (perform s c .state .cursor) get) ≡ false
+    → refusal (perform s c .state) get ≡ 0
+unfolding firstMet testsIn testsOf badTree within among isNone
+get-passes w s c parsed g h z get i j n =
+    let after = perform s c .state in
+    let a = adding-ok w s c parsed g h z in
+    let good = perform-good w s c parsed g in
+    let T = length (after .pool .trees) in
+    let there : noneThere after get ≡ false = none-is (markedAt w s c) after get good (rw i) ∙ n in
+    let many : T ≡ length (s .pool .trees) =
+    ap (λ (y : Pool). length (y .trees)) (adds-pool w s c parsed g h z) ∙ add-trees (s .pool) (treeOf s c) (c .key) (c .name) (g .pool) a in
+    let tree : badTree after get ≡ false =
+    ap not (both-true (leb 1 (get .tree)) (leb (get .tree) T) (le-leb 1 (get .tree) (omega (arith, j, a .tree-low)))
+    (le-leb (get .tree) T (omega (arith, j, a .tree-high, many)))) in
+    tests-of-op after get (rw i)
+    ∙ ap (λ (m : ℕ). firstMet (testsIn testsOf m) after get) i
+    ∙ ap₂ (λ (x y : Bool). cond x 11 (cond y 19 0)) tree there
+
+get-leaves : (s : State) (get : Command) → get .op ≡ 2 → (x : ℕ) → kind (opOf get .then s get x) ≡ 0
+unfolding opOf ops opIn op_means_does_then_ gone kind
+get-leaves s get i x = ap (λ (n : ℕ). kind (opIn ops n .then s get x)) i
+
+-- A get after a done add shows the record that was added: it is not refused, and its answer is that entry.
+pub get-after-add : (w : Option Pool) (s : State) (c : Command) → Parsed c → GoodState w s → adding (c .op) ≡ true → refusal s c ≡ 0
+    → (get : Command) → get .op ≡ 2 → get .tree ≡ treeOf s c → get .key ≡ c .key
+    → (refusal (perform s c .state) get ≡ 0) × (perform (perform s c .state) get .answer ≡ shown 0 0 (some (newEntry (s .pool) (c .key) (c .name))))
+unfolding seen sights sightIn ofKey entriesOf newEntry within among isNone
+get-after-add w s c parsed g h z get i j k =
+    let e = newEntry (s .pool) (c .key) (c .name) in
+    let t = treeOf s c in
+    let a = adding-ok w s c parsed g h z in
+    let m = adds w s c parsed g h z in
+    let after = perform s c .state in
+    let good = perform-good w s c parsed g in
+    let shows : seen (after .pool) (after .cursor) get ≡ some e =
+    ap (λ (n : ℕ). sightIn sights n (entriesOf (after .pool)) (after .cursor) get) i
+    ∙ ap₂ (λ (x u : ℕ). lookup x (entriesOf (after .pool) u)) k j
+    ∙ ap (lookup (c .key)) (m .list)
+    ∙ lookup-insert e (entriesOf (s .pool) t) (lookup-absent (s .pool) (c .key) (list left (treeAt (s .pool) t)) (a .new)) in
+    let passes : refusal after get ≡ 0 = get-passes w s c parsed g h z get i j (ap isNone shows) in
+    let l = looks (markedAt w s c) after get good (rw i) passes in
+    (passes, l .answer ∙ ap₂ (λ (x : ℕ) (y : Option Entry). shown 0 x y) (ap kind (l .cursor) ∙ get-leaves after get i _) shows)
+
+-- ---- marks, commit, rollback and reset
+
+silent-opened : Unit {0}
+unfolding ops opIn op_means_does_then_ carriedOut openMark rollBack commit reset silent gone kind answer shown noRecord
+silent-opened = tt
+
+emptied-text : (p : Pool) → emptied p .text ≡ []
+unfolding emptied withText
+emptied-text p = refl
+
+emptied-next : (p : Pool) → emptied p .next ≡ p .next
+unfolding emptied withText withTrees
+emptied-next p = refl
+
+module _ (s : State) (c : Command) where
+  silent-is : (n : ℕ) → c .op ≡ n → refusal s c ≡ 0 → perform s c ≡ carriedOut (opIn ops n) s c
+  unfolding opOf
+  silent-is n e z = done-is s c z ∙ ap (λ (m : ℕ). carriedOut (opIn ops m) s c) e
+
+  -- Mark opens a mark and changes nothing else; it shows no record and drops the cursor, as do the three below.
+  pub marks : c .op ≡ 26 → refusal s c ≡ 0
+      → perform s c ≡ record { state = record { pool = s .pool; cursor = nowhere; mark = some (opening (s .pool)) }; answer = shown 0 0 none }
+  unfolding silent-opened
+  marks e z = silent-is 26 e z
+
+  -- Rollback undoes what was done since the mark, and closes it; demand 3 says what that leaves.
+  pub rolls-back : c .op ≡ 27 → refusal s c ≡ 0
+      → perform s c ≡ record { state = record { pool = rolledBack (s .mark) (s .pool); cursor = nowhere; mark = none }; answer = shown 0 0 none }
+  unfolding silent-opened
+  rolls-back e z = silent-is 27 e z
+
+  -- Commit closes the mark and changes nothing else.
+  pub commits : c .op ≡ 28 → refusal s c ≡ 0
+      → perform s c ≡ record { state = record { pool = s .pool; cursor = nowhere; mark = none }; answer = shown 0 0 none }
+  unfolding silent-opened
+  commits e z = silent-is 28 e z
+
+  -- Reset empties the pool.
+  pub resets : c .op ≡ 29 → refusal s c ≡ 0
+      → perform s c ≡ record { state = record { pool = emptied (s .pool); cursor = nowhere; mark = none }; answer = shown 0 0 none }
+  unfolding silent-opened
+  resets e z = silent-is 29 e z
+
+-- An emptied pool has no entry in any list and no text; its next stamp is as it was.
+pub emptied-is : (p : Pool) → ((t : ℕ) → entriesOf (emptied p) t ≡ []) × (emptied p .text ≡ []) × (emptied p .next ≡ p .next)
+emptied-is p = (emptied-entries p, emptied-text p, emptied-next p)

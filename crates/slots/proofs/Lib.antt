@@ -1,0 +1,14 @@
+pub mod RecordSteps
+pub mod HeadSteps
+pub mod ChangeSteps
+pub mod Bodies
+pub mod Standing
+pub mod Looking
+pub mod Placing
+pub mod Filling
+pub mod Heads
+pub mod Texts
+pub mod Edits
+pub mod Changing
+pub mod Opening
+pub mod Closing

@@ -1,0 +1,20 @@
+-- `cut`: the head as it is, or a row of zeros and the shorter text.
+use borrow.Author.Needs.{needs}
+use borrow.Author.Tests.{lt-ltb, le-ltb}
+use Rattle.slots.specs.Change.{cutN}
+use Rattle.slots.proofs.change.cut.Statement.{statement}
+use Rattle.slots.proofs.change.cut.Tie as tie
+
+returns : tie.Need-returns
+unfolding cutN
+returns c = simp (lt-ltb _ _ (c .if1 .taken))
+
+returns-2 : tie.Need-returns-2
+unfolding cutN
+returns-2 c = simp (le-ltb _ _ (c .before .before .before .before .before .before .before .if1 .left)) (cc)
+
+pub cut-spec : {M : Type 1} → statement M
+cut-spec =
+    tie.close
+    (tie.spec returns (λ c. search needs) (λ c. search needs) (λ c. search needs) (λ c. search needs) (λ c κs. tt) (λ c. search needs)
+    returns-2)

@@ -1,0 +1,27 @@
+-- `fill`: nothing at slot 0, else the five fields.
+use borrow.Author.Needs.{needs}
+use borrow.Author.Tests.{eq-eqb}
+use Rattle.slots.specs.Record.{fillN}
+use Rattle.slots.proofs.RecordSteps.{fields-stored}
+use Rattle.slots.proofs.record.fill.Statement.{statement}
+use Rattle.slots.proofs.record.fill.Tie as tie
+
+returns : tie.Need-returns
+unfolding fillN
+returns c = simp (eq-eqb _ _ (c .if1 .taken))
+
+returns-2 : tie.Need-returns-2
+returns-2 c =
+    let c5 = c .before .before in
+    let c4 = c5 .before .before .before .before in
+    let c3 = c4 .before .before .before .before in
+    let c2 = c3 .before .before .before .before in
+    let c1 = c2 .before .before .before .before in
+    fields-stored _ _ _ (c1 .before .before .if1 .left) (c1 .put-u64 .ensures) (c2 .put-u8 .ensures) (c3 .put-u32 .ensures)
+    (c4 .put-u322 .ensures) (c5 .put-u16 .ensures)
+
+pub fill-spec : {M : Type 1} → statement M
+fill-spec =
+    tie.close
+    (tie.spec returns (λ c. search needs) (λ c. search needs) (λ c κs. tt) (λ c. search needs) (λ c κs. tt) (λ c. search needs)
+    (λ c κs. tt) (λ c. search needs) (λ c κs. tt) (λ c. search needs) (λ c κs. tt) (λ c. search needs) returns-2)

@@ -1,0 +1,211 @@
+// What changes a pool: a record into a slot and its tree and out of both, a new record with its name,
+// reset, and the text cut back.
+ghost use mathlib.Core.Path.{_≡_};
+ghost use Prim.Native.Nat.{_+_, _*_};
+ghost use Rattle.fields.specs.Part.{part, splice};
+ghost use Rattle.tree.specs.Node.{way};
+ghost use Rattle.slots.specs.Change.{freeAfterN, freedN, hungN, putRecN, takenN, dropRecN, plusN, riseN, grownN, addRecN, emptiedN, cutN};
+use super::head::Head;
+use super::head::set_tree;
+use super::record::Record;
+use super::record::clear;
+use super::record::fill;
+use super::record::lowest;
+use tree::dir::Dir;
+use tree::insert::Spot;
+use tree::insert::insert;
+use tree::insert::more;
+use tree::node::AvlTree;
+use tree::remove::less;
+use tree::remove::remove;
+
+// ---- a record in
+
+// The lowest free slot once slot x is taken.
+fn free_after(body: &[u8], h: Head, x: u16) -> u16
+    ensures { λ r. ⌜ r ≡ freeAfterN (now (body .entry)) (h .slots) (h .free) x ⌝ }
+{
+    if x == h.free {
+        return lowest(body, x, h.slots);
+    }
+    h.free
+}
+
+// The record v in slot x, hung below p on side d of the tree t.
+fn hang_in(body: &mut [u8], t: AvlTree, x: u16, v: Record, p: u16, d: Dir) -> AvlTree
+    ensures { λ r. ⌜ (now (body .exit), r) ≡ hungN (now (body .entry)) t x v p (way (d .0)) ⌝ }
+{
+    fill(body, x, v);
+    insert(body, t, x, p, d)
+}
+
+// The record v into the free slot x and into its tree, below p on side d.
+pub fn put_rec(body: &mut [u8], h: Head, x: u16, v: Record, p: u16, d: Dir) -> Head
+    ensures { λ r. ⌜ (now (body .exit), r) ≡ putRecN (now (body .entry)) h x v p (way (d .0)) ⌝ }
+{
+    let t = hang_in(body, h.tree(v.tree), x, v, p, d);
+    let free = free_after(body, h, x);
+    let ts = h.table;
+    let us = set_tree(ts, v.tree, t);
+    Head {
+        slots: h.slots,
+        trees: h.trees,
+        live: more(h.live),
+        free,
+        size: h.size,
+        used: h.used,
+        next: h.next,
+        table: us,
+    }
+}
+
+// ---- a record out
+
+// The lowest free slot once slot x is free too.
+fn freed(free: u16, x: u16) -> u16
+    ensures { λ r. ⌜ r ≡ freedN free x ⌝ }
+{
+    if free == 0 {
+        return x;
+    }
+    if x < free {
+        return x;
+    }
+    free
+}
+
+fn take(body: &mut [u8], t: AvlTree, x: u16) -> AvlTree
+    ensures { λ r. ⌜ (now (body .exit), r) ≡ takenN (now (body .entry)) t x ⌝ }
+{
+    let u = remove(body, t, x);
+    clear(body, x);
+    u
+}
+
+// The record of slot x out of tree t, and its slot zeroed.
+pub fn drop_rec(body: &mut [u8], h: Head, x: u16, t: u8) -> Head
+    ensures { λ r. ⌜ (now (body .exit), r) ≡ dropRecN (now (body .entry)) h x t ⌝ }
+{
+    let u = take(body, h.tree(t), x);
+    let ts = h.table;
+    let us = set_tree(ts, t, u);
+    Head {
+        slots: h.slots,
+        trees: h.trees,
+        live: less(h.live),
+        free: freed(h.free, x),
+        size: h.size,
+        used: h.used,
+        next: h.next,
+        table: us,
+    }
+}
+
+// ---- a new record with its name
+
+// Text used after a name of len bytes more; sums that would wrap stay.
+fn plus(used: u32, len: u16) -> u32
+    ensures { λ r. ⌜ r ≡ plusN used len ⌝ }
+{
+    if 4_294_901_760 <= used {
+        return used;
+    }
+    used + len as u32
+}
+
+// The stamp after this one; the last one stays.
+fn rise(next: u32) -> u32
+    ensures { λ r. ⌜ r ≡ riseN next ⌝ }
+{
+    if next == 4_294_967_295 {
+        return next;
+    }
+    next + 1
+}
+
+// The head with a name of len bytes more and the next stamp taken.
+fn grown(h: Head, len: u16) -> Head
+    ensures { λ r. ⌜ r ≡ grownN h len ⌝ }
+{
+    let ts = h.table;
+    Head {
+        slots: h.slots,
+        trees: h.trees,
+        live: h.live,
+        free: h.free,
+        size: h.size,
+        used: plus(h.used, len),
+        next: rise(h.next),
+        table: ts,
+    }
+}
+
+// Copies the len bytes of the names from `from` on into the body, if they lie within the names.
+fn append_name(body: &mut [u8], at: usize, names: &[u8], from: usize, len: usize)
+    ensures { λ _. ⌜ now (body .exit) ≡ splice (now (body .entry)) at (part (now (names .entry)) from len) ⌝ }
+{
+    if !fields::within(names, from, len) {
+        return;
+    }
+    fields::copy_in(body, at, &names[from..from + len]);
+}
+
+// A new record: the lowest free slot, the record v, its name at text used, the next stamp.
+pub fn add_rec(body: &mut [u8], h: Head, v: Record, names: &[u8], from: u32, s: Spot) -> Head
+    ensures { λ r. ⌜ (now (body .exit), r) ≡ addRecN (now (body .entry)) h v (now (names .entry)) from (s .parent) (way (s .side .0)) ⌝ }
+{
+    append_name(
+        body,
+        32 * (h.slots as usize) + h.used as usize,
+        names,
+        from as usize,
+        v.len as usize,
+    );
+    let g = grown(h, v.len);
+    let d = s.side;
+    put_rec(body, g, h.free, v, s.parent, d)
+}
+
+// ---- the whole
+
+// Every record free, every tree empty, no text. The next stamp stays.
+pub fn reset(body: &mut [u8], h: Head) -> Head
+    ensures { λ r. ⌜ (now (body .exit), r) ≡ emptiedN (now (body .entry)) h ⌝ }
+{
+    fields::zero_out(body, 0, body.len());
+    Head {
+        slots: h.slots,
+        trees: h.trees,
+        live: 0,
+        free: 1,
+        size: h.size,
+        used: 0,
+        next: h.next,
+        table: [AvlTree { root: 0, count: 0 }; 8],
+    }
+}
+
+// The text back to its first `used` bytes, and zeros above.
+pub fn cut(body: &mut [u8], h: Head, used: u32) -> Head
+    ensures { λ r. ⌜ (now (body .exit), r) ≡ cutN (now (body .entry)) h used ⌝ }
+{
+    if h.used < used {
+        return h;
+    }
+    fields::zero_out(
+        body,
+        32 * (h.slots as usize) + used as usize,
+        (h.used - used) as usize,
+    );
+    let ts = h.table;
+    Head {
+        slots: h.slots,
+        trees: h.trees,
+        live: h.live,
+        free: h.free,
+        size: h.size,
+        used,
+        next: h.next,
+        table: ts,
+    }
+}

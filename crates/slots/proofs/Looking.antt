@@ -40,8 +40,8 @@ use Rattle.slots.proofs.Standing.{seat-live, seated-body, seat-fits, be
 
 -- ---- a slot's own fields
 
--- a field of slot i + 1 is that of its row
-in-place : (p : Pool) (i k w : ℕ) → i < length (p .slots) → k + w ≤ 32
+-- A field of slot i + 1 is that of its row.
+pub in-place : (p : Pool) (i k w : ℕ) → i < length (p .slots) → k + w ≤ 32
     → getLE w (bodyOf p) (32 * i + k) ≡ getLE w (at [] (recordRows p 1 (p .slots)) (suc i)) k
 unfolding bodyOf at
 in-place p i k w h inside =

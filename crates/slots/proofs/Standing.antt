@@ -57,8 +57,8 @@ pub seat-list : (d : Dir) (x : ℕ) {t : Tree} (w : Seat d x t)
     → list (flip d) t ≡ (before (flip d) (w .way) ++ list (flip d) (w .far)) ++ (x ∷ (list (flip d) (w .near) ++ after (flip d) (w .way)))
 seat-list d x w = ap (list (flip d)) (sym (w .is)) ∙ walk-list d (w .near) x (w .bal) (w .far) (w .way)
 
--- what follows a slot in a list that does not have it before
-following-at : (x : ℕ) (front rest : List ℕ) → count (eqb x) front ≡ 0 → following x (front ++ (x ∷ rest)) ≡ first rest
+-- What follows a slot in a list that does not have it before.
+pub following-at : (x : ℕ) (front rest : List ℕ) → count (eqb x) front ≡ 0 → following x (front ++ (x ∷ rest)) ≡ first rest
 unfolding count following
 following-at x [] rest h = ap (λ (c : Bool). cond c (first rest) (following x rest)) (eq-eqb x x refl)
 following-at x (y ∷ front) rest h =

@@ -198,6 +198,7 @@ pub fn cut(body: &mut [u8], h: Head, used: u32) -> Head
         (h.used - used) as usize,
     );
     let ts = h.table;
+    let next = h.next;
     Head {
         slots: h.slots,
         trees: h.trees,
@@ -205,7 +206,7 @@ pub fn cut(body: &mut [u8], h: Head, used: u32) -> Head
         free: h.free,
         size: h.size,
         used,
-        next: h.next,
+        next,
         table: ts,
     }
 }

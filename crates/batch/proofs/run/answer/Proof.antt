@@ -1,0 +1,12 @@
+-- `answer`: with the kind of the cursor.
+use borrow.Author.Needs.{needs}
+use Rattle.batch.proofs.RunSteps.{answer-steps}
+use Rattle.batch.proofs.run.answer.Statement.{statement}
+use Rattle.batch.proofs.run.answer.Tie as tie
+
+returns : tie.Need-returns
+returns c = answer-steps _ _ _ (c .before .before .before .kind .ensures) (c .before .before .put-answer .ensures)
+
+pub answer-spec : {M : Type 1} → statement M
+answer-spec =
+    tie.close (tie.spec (λ c κs. tt) (λ c κs. tt) (λ c. search needs) returns)

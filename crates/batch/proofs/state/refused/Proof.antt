@@ -1,0 +1,11 @@
+-- `refused`: no record.
+use Rattle.batch.proofs.StateSteps.{refused-steps}
+use Rattle.batch.proofs.state.refused.Statement.{statement}
+use Rattle.batch.proofs.state.refused.Tie as tie
+
+returns : tie.Need-returns
+returns c = refused-steps _ _ (c .nothing .ensures)
+
+pub refused-spec : {M : Type 1} → statement M
+refused-spec =
+    tie.close (tie.spec (λ c κs. tt) returns)

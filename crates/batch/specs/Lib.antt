@@ -1,0 +1,5 @@
+pub mod Work
+pub mod Tests
+pub mod Ops
+pub mod Run
+pub mod Image

@@ -1,0 +1,76 @@
+// The changes since a mark, undone last first.
+ghost use mathlib.Core.Path.{_≡_};
+ghost use Prim.Native.Nat.{_≤_};
+ghost use Rattle.batch.specs.Work.{workOf};
+ghost use Rattle.batch.specs.Run.{noEntry, undoOneN, undoN, rollBackN};
+use super::cursor::Cursor;
+use super::state::Batch;
+use slots::change::cut;
+use slots::change::drop_rec;
+use slots::change::put_rec;
+use slots::head::Head;
+use slots::record::Record;
+use slots::record::nothing;
+use slots::record::record_at;
+
+// One change: the record was added to the slot, or this record was removed from it.
+pub struct Entry {
+    pub rec: Record,
+    pub slot: u16,
+    pub added: bool,
+}
+
+pub fn no_entry() -> Entry
+    ensures { λ r. ⌜ r ≡ noEntry ⌝ }
+{
+    Entry {
+        rec: nothing(),
+        slot: 0,
+        added: false,
+    }
+}
+
+// An added record is removed; a removed one goes back into its slot and, by its key, into its tree.
+fn undo_one(body: &mut [u8], h: Head, e: Entry) -> Head
+    ensures { λ r. ⌜ (now (body .exit), r) ≡ undoOneN (now (body .entry)) h e ⌝ }
+{
+    if e.added {
+        let old = record_at(body, e.slot);
+        return drop_rec(body, h, e.slot, old.tree);
+    }
+    let v = e.rec;
+    let p = tree::search::entry(body, h.tree(v.tree), v.key);
+    let d = p.side;
+    put_rec(body, h, e.slot, v, p.parent, d)
+}
+
+// The first n changes, last first.
+fn undo(body: &mut [u8], start: Head, es: [Entry; 256], n: u16) -> Head
+    requires { ⌜ n ≤ 256 ⌝ }
+    ensures { λ r. ⌜ (now (body .exit), r) ≡ undoN n (now (body .entry)) start es ⌝ }
+{
+    let mut h = start;
+    let mut i = n;
+    while i != 0 {
+        i -= 1;
+        let e = es[i as usize];
+        h = undo_one(body, h, e);
+    }
+    h
+}
+
+// The changes undone, the text back to where it was at the mark, the mark closed.
+pub fn roll_back(body: &mut [u8], b: Batch, es: [Entry; 256], n: u16) -> Batch
+    requires { ⌜ n ≤ 256 ⌝ }
+    ensures { λ r. ⌜ (now (body .exit), workOf r) ≡ rollBackN n (now (body .entry)) (workOf b) es ⌝ }
+{
+    let old = b.head;
+    let h = undo(body, old, es, n);
+    let g = cut(body, h, b.used);
+    Batch {
+        head: g,
+        cursor: Cursor::Nowhere,
+        marked: false,
+        used: 0,
+    }
+}

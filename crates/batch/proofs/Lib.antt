@@ -29,3 +29,4 @@ pub mod RemoveSteps
 pub mod AddSteps
 pub mod PerformSteps
 pub mod BatchSteps
+pub mod OneToOne

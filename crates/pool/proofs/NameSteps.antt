@@ -1,26 +1,24 @@
--- The answers of the name door and of its tests, each from what was read and found on the way to it. Assumes nothing.
+-- The answers of the name door, of its place and of its tests, each from what was read and found on the way to it. Assumes nothing.
 use mathlib.Core.Bool.{Bool, true, false, not}
 use mathlib.Core.List.{List, []}
-use mathlib.Core.Path.{_≡_, refl, sym, ap, _∙_}
+use mathlib.Core.Path.{_≡_, refl, sym, ap, ap₂, _∙_}
 use Prim.Native.Nat.{ℕ, zero, suc, _+_, _*_, _-_, _≤_}
 use native.Mathlib.Omega.{arith}
 use lib.Dec.{eqb}
-use lib.ListN.{length, take, drop, length-drop}
+use lib.ListN.{length, take, drop}
 use lib.Seq.{drop-drop}
-use borrow.Author.Tests.{not-true, not-false, eq-eqb, ne-eqb, eqb-false}
+use borrow.Author.Tests.{not-true, not-false, eq-eqb, ne-eqb}
 use Rattle.fields.specs.Number.{getLE}
-use Rattle.fields.specs.Part.{part}
-use Rattle.fields.proofs.Parts.{part-in}
 use Rattle.meaning.specs.Layout.{within, at}
-use Rattle.meaning.specs.Pool.{nSlots, nTrees, textUsed, nextStamp, records, textOf, treeIn, stampIn, startIn, lenIn}
+use Rattle.meaning.specs.Pool.{nSlots, nTrees, records, treeIn, stampIn, startIn, lenIn}
 use Rattle.meaning.specs.Sound.{sound}
 use Rattle.meaning.specs.Doors.{name}
 use Rattle.meaning.proofs.Facts.{both, rows-at}
-use Rattle.meaning.proofs.Clauses.{within-is, RowFacts, clauses}
-use Rattle.meaning.proofs.Contents.{row-of}
+use Rattle.meaning.proofs.Clauses.{within-is, clauses}
 use Rattle.meaning.proofs.Sections.{get-part}
-use Rattle.pool.specs.Name.{matches, handleOk}
-use Rattle.pool.proofs.Naming.{name-is}
+use Rattle.pool.specs.Name.{matches, handleOk, noPlace, placeOf}
+use Rattle.pool.specs.declared.name.Place.{Place}
+use Rattle.pool.proofs.Naming.{place-is, place-fits, place-low, name-at}
 
 -- ---- a record against a handle
 
@@ -96,11 +94,11 @@ module _ (b : List ℕ) (t x g : ℕ) {n : ℕ} (ne : n ≡ getLE 2 b 4) {p : Bo
           ∙ ap (λ (k : ℕ). matches t g (take 32 (drop (32 + 8 * k + 32 * (x - 1)) b))) trees-are
           ∙ ap (matches t g) (sym (row-part b x (slot-in .0) (slot-in .1))))
 
--- ---- the name
+-- ---- the place of the name
 
 module _ (b : List ℕ) (t x g : ℕ) {s : Bool} (se : s ≡ sound b) where
-  pub unsound : not s ≡ true → [] ≡ name b t x g
-  unsound h = let k : sound b ≡ false = sym se ∙ not-true s h in sym (name-is b t x g ∙ simp k refl)
+  pub unsound : not s ≡ true → noPlace ≡ placeOf b t x g
+  unsound h = let k : sound b ≡ false = sym se ∙ not-true s h in sym (place-is b t x g ∙ simp k refl)
 
   module _ (sh : not s ≡ false) where
     is-good : sound b ≡ true
@@ -110,36 +108,21 @@ module _ (b : List ℕ) (t x g : ℕ) {s : Bool} (se : s ≡ sound b) where
     room = omega (arith, clauses b is-good .head .length-is)
 
     module _ {h : Bool} (he : h ≡ handleOk b t x g) where
-      pub refused : not h ≡ true → [] ≡ name b t x g
+      pub refused : not h ≡ true → noPlace ≡ placeOf b t x g
       refused k =
           let j : handleOk b t x g ≡ false = sym he ∙ not-true h k in
-          sym (name-is b t x g ∙ simp (is-good, j) refl)
+          sym (place-is b t x g ∙ simp (is-good, j) refl)
 
       module _ (hh : not h ≡ false) where
         taken : handleOk b t x g ≡ true
         taken = sym he ∙ not-false h hh
 
-        parts : (within 1 (nSlots b) x ≡ true) × (matches t g (at [] (records b) x) ≡ true)
-        unfolding handleOk
-        parts = both (within 1 (nSlots b) x) _ (both (within 1 (nTrees b) t) _ taken .1)
-
         slot : (1 ≤ x) × (x ≤ nSlots b)
-        slot = within-is 1 (nSlots b) x (parts .0)
+        unfolding handleOk
+        slot = within-is 1 (nSlots b) x (both (within 1 (nSlots b) x) _ (both (within 1 (nTrees b) t) _ taken .1) .0)
 
         pub low : 1 ≤ x
         low = slot .0
-
-        live : treeIn (at [] (records b) x) ≡ 0 → ⊥
-        unfolding matches
-        live = eqb-false _ 0 (not-true _ (both (not (eqb (treeIn (at [] (records b) x)) 0)) _ (parts .1) .0))
-
-        in-text : startIn (at [] (records b) x) + lenIn (at [] (records b) x) ≤ textUsed b
-        in-text = go (row-of b (clauses b is-good) x)
-          where
-            go : RowFacts (nTrees b) (textUsed b) (nextStamp b) (at [] (records b) x)
-                → startIn (at [] (records b) x) + lenIn (at [] (records b) x) ≤ textUsed b
-            go (RowFacts.free e z) = absurd (live e)
-            go (RowFacts.live f) = f .name-fits
 
         module _ {n m : ℕ} (ne : n ≡ getLE 2 b 4) (me : m ≡ getLE 2 b 2) {start len : ℕ}
             (de : start ≡ getLE 4 b (32 + 8 * n + 32 * (x - 1) + 20)) (le : len ≡ getLE 2 b (32 + 8 * n + 32 * (x - 1) + 24)) where
@@ -165,22 +148,25 @@ module _ (b : List ℕ) (t x g : ℕ) {s : Bool} (se : s ≡ sound b) where
           unfolding lenIn
           len-is = le ∙ field 24 2 (omega arith)
 
-          pub name-inside : 32 + 8 * n + 32 * m + start + len ≤ length b
-          name-inside =
-              let f = clauses b is-good .head in
-              omega (arith, f .length-is, f .used-fits, in-text, start-is, len-is, n-is, m-is)
+          at-is : 32 + 8 * n + 32 * m + start ≡ 32 + 8 * nTrees b + 32 * nSlots b + startIn (at [] (records b) x)
+          at-is = omega (arith, start-is, n-is, m-is)
 
-          pub name-part :
-              take (32 + 8 * n + 32 * m + start + len - (32 + 8 * n + 32 * m + start)) (drop (32 + 8 * n + 32 * m + start) b) ≡ name b t x g
-          unfolding textOf
-          name-part =
-              let w : 32 + 8 * n + 32 * m + start + len - (32 + 8 * n + 32 * m + start) ≡ len = omega arith in
-              let q = 32 + 8 * n + 32 * m in
-              let v : q ≡ 32 + 8 * nTrees b + 32 * nSlots b = omega (arith, n-is, m-is) in
-              ap (λ (k : ℕ). take k (drop (q + start) b)) w
-              ∙ ap (take len) (sym (drop-drop start q b))
-              ∙ sym (part-in (drop q b) start len (rw length-drop (omega (arith, name-inside))))
-              ∙ ap (λ (k : ℕ). part (drop k b) start len) v
-              ∙ ap (λ (k : ℕ). part (textOf b) k len) start-is
-              ∙ ap (part (textOf b) (startIn (at [] (records b) x))) len-is
-              ∙ sym (name-is b t x g ∙ simp (is-good, taken) refl)
+          pub placed : _≡_ {A = Place} (record { at = 32 + 8 * n + 32 * m + start; len = len }) (placeOf b t x g)
+          placed =
+              let made : ℕ → ℕ → Place = λ a l. record { at = a; len = l } in
+              ap₂ made at-is len-is
+              ∙ sym (place-is b t x g ∙ simp (is-good, taken) refl)
+
+          pub place-small : 32 + 8 * n + 32 * m + start ≤ 41_056
+          place-small = rw (ap (λ (p : Place). p .at) placed) (place-low b t x g)
+
+-- ---- the name
+
+module _ (b : List ℕ) (t x g : ℕ) {p : Place} (pe : p ≡ placeOf b t x g) where
+  pub name-inside : p .at + p .len ≤ length b
+  name-inside = rw pe (place-fits b t x g)
+
+  pub name-part : take (p .at + p .len - p .at) (drop (p .at) b) ≡ name b t x g
+  name-part =
+      let w : p .at + p .len - p .at ≡ p .len = omega arith in
+      ap (λ (k : ℕ). take k (drop (p .at) b)) w ∙ ap (λ (q : Place). take (q .len) (drop (q .at) b)) pe ∙ name-at b t x g

@@ -1,5 +1,5 @@
 -- Sides as the code has them, a flag as a mask, and the two stores of a child. Assumes nothing.
-use mathlib.Core.Path.{_≡_, refl, ap, _∙_}
+use mathlib.Core.Path.{_≡_, refl, sym, ap, _∙_}
 use mathlib.Core.Bool.{Bool, true, false, not, cond}
 use mathlib.Core.List.{List}
 use Prim.Native.Nat.{ℕ, _+_, _-_, _≤_, _<_, _%_, _^_}
@@ -7,8 +7,22 @@ use native.Mathlib.Omega.{arith}
 use lib.Dec.{lit≤}
 use lib.Bits.{bitAnd, and-zero-r, and-mask}
 use mir.Val.{boolByte}
-use Rattle.avl.specs.Tree.{Dir, flip, alike, toBalance}
+use Rattle.avl.specs.Tree.{Dir, left, right, flip, alike, toBalance}
 use Rattle.tree.specs.Node.{way, child, parent, putN, putBoth}
+
+-- from a side back to the code's
+unway : Dir → Bool
+unway left = false
+unway right = true
+
+unway-way : (b : Bool) → unway (way b) ≡ b
+unfolding unway
+unway-way true = refl
+unway-way false = refl
+
+-- Two values that stand for the same side are the same: a promise about `way` determines the value.
+pub sides-same : (a b : Bool) → way a ≡ way b → a ≡ b
+sides-same a b e = sym (unway-way a) ∙ ap unway e ∙ unway-way b
 
 pub way-not : (b : Bool) → way (not b) ≡ flip (way b)
 way-not true = refl

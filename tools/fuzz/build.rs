@@ -1,0 +1,22 @@
+//! Links `libzimatuno.a` from the folder that the environment variable `ZIMATUNO_LIB_DIR` names,
+//! or else from `../../target/staticlib`. A relative folder counts from this crate's own.
+
+use std::env;
+use std::path::PathBuf;
+
+fn main() {
+    println!("cargo:rerun-if-changed=build.rs");
+    println!("cargo:rerun-if-env-changed=ZIMATUNO_LIB_DIR");
+    let given = env::var_os("ZIMATUNO_LIB_DIR").unwrap_or_else(|| "../../target/staticlib".into());
+    let folder = PathBuf::from(env::var_os("CARGO_MANIFEST_DIR").unwrap_or_default()).join(given);
+    let archive = folder.join("libzimatuno.a");
+    println!("cargo:rerun-if-changed={}", archive.display());
+    if !archive.is_file() {
+        println!(
+            "cargo:warning={} is not there: `rt staticlib zimatuno` writes it",
+            archive.display()
+        );
+    }
+    println!("cargo:rustc-link-search=native={}", folder.display());
+    println!("cargo:rustc-link-lib=static=zimatuno");
+}

@@ -1,5 +1,5 @@
 //! A stand-in for the `pointers` crate, inferred from its use in the published files: the two traits, and
-//! the pointers that the comparison and the published Debug output need.
+//! the pointers that the comparison, the measurement (bench/run) and the published Debug output need.
 use std::rc::Rc;
 
 pub trait Pointer: Sized {
@@ -36,6 +36,20 @@ impl<T> CloneablePointer for Rc<T> {
             Rc::increment_strong_count(p);
             Rc::from_raw(p)
         }
+    }
+}
+
+/// What bench/original.rs holds its nodes by.
+impl<T> Pointer for Box<T> {
+    type Target = T;
+    fn as_ref(&self) -> &T {
+        self
+    }
+    unsafe fn from_raw(p: *const T) -> Self {
+        unsafe { Box::from_raw(p as *mut T) }
+    }
+    fn into_raw(self) -> *const T {
+        Box::into_raw(self)
     }
 }
 

@@ -1,7 +1,7 @@
-//! Stands in for sys.rs on targets that the library is not made for, so that the crate
-//! compiles there: each call panics.
+//! Stands in for sys.rs where the library is not there, so that the crate compiles: each
+//! call panics.
 
-const ABSENT: &str = "libzimatuno.a is for x86-64 Linux only";
+const ABSENT: &str = "libzimatuno.a was not there when this crate was compiled";
 
 pub fn create(_: u16, _: u16, _: u32, _: &mut [u8]) -> u8 {
     panic!("{}", ABSENT)

@@ -14,8 +14,8 @@
 //!
 //! [`SoundPool`] lists the records of a pool by rising key.
 //!
-#![cfg_attr(all(target_arch = "x86_64", target_os = "linux"), doc = "```")]
-#![cfg_attr(not(all(target_arch = "x86_64", target_os = "linux")), doc = "```ignore")]
+#![cfg_attr(zimatuno_linked, doc = "```")]
+#![cfg_attr(not(zimatuno_linked), doc = "```ignore")]
 //! use zimatuno::{create, name, pool_size, Batch, Refusal};
 //!
 //! # fn main() -> Result<(), Box<dyn std::error::Error>> {
@@ -49,8 +49,8 @@
 //!
 //! # Where it runs
 //!
-//! `libzimatuno.a` is for x86-64 Linux. Elsewhere this crate compiles, with
-//! [`LINKED`] false: batches can be built and answers read, and [`create`],
+//! `bindings/library` of the project builds `libzimatuno.a` on x86-64 and aarch64 Linux.
+//! Where it is not there this crate compiles, with [`LINKED`] false: batches can be built and answers read, and [`create`],
 //! [`check`], [`name`], [`run_batch`] and what calls them panic.
 
 #![deny(missing_docs, unsafe_code)]
@@ -63,10 +63,10 @@ mod commands;
 mod listing;
 mod pool;
 mod refusal;
-#[cfg(all(target_arch = "x86_64", target_os = "linux"))]
+#[cfg(zimatuno_linked)]
 #[allow(unsafe_code)]
 mod sys;
-#[cfg(not(all(target_arch = "x86_64", target_os = "linux")))]
+#[cfg(not(zimatuno_linked))]
 #[path = "absent.rs"]
 mod sys;
 
@@ -77,10 +77,10 @@ pub use crate::pool::{check, create, name, pool_size, Handle};
 pub use crate::pool::{MAX_SLOTS, MAX_TEXT, MAX_TREES};
 pub use crate::refusal::{DoorError, Refusal};
 
-/// Whether the doors are there: true on x86-64 Linux, false elsewhere.
-pub const LINKED: bool = cfg!(all(target_arch = "x86_64", target_os = "linux"));
+/// Whether the doors are there: whether `libzimatuno.a` was linked when this crate was compiled.
+pub const LINKED: bool = cfg!(zimatuno_linked);
 
 /// The example of README.md, as a test.
-#[cfg(all(doctest, target_arch = "x86_64", target_os = "linux"))]
+#[cfg(all(doctest, zimatuno_linked))]
 #[doc = include_str!("../README.md")]
 mod readme {}

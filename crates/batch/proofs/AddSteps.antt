@@ -32,6 +32,10 @@ above-of e = ap (λ (z : ℕ × Dir). z .0) e
 side-of : {p : ℕ} {d : Dir} {s : ℕ × Dir} → _≡_ {A = ℕ × Dir} (p, d) s → d ≡ s .1
 side-of e = ap (λ (z : ℕ × Dir). z .1) e
 
+-- the cursor's tree, as the ops name it
+pub tree-known : (ts : List AvlTree) {u : AvlTree} {n t : ℕ} → u ≡ treeN ts n → t ≡ n → u ≡ treeN ts t
+tree-known ts e f = (cc)
+
 -- ---- the ops
 
 -- What `add` calls, in its order.

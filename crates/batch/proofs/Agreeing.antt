@@ -1,21 +1,24 @@
 -- When what a command has done on the body and the state is what `meaning` says of it; and the journal, which keeps the changes of an open mark.
 -- Assumes nothing.
-use mathlib.Core.Bool.{false}
+use mathlib.Core.Bool.{Bool, true, false, cond}
 use mathlib.Core.List.{List, _∷_}
 use mathlib.Core.Option.{Option, none, some}
 use mathlib.Core.Path.{_≡_, refl, sym, ap, ap₂, _∙_}
 use Prim.Native.Nat.{ℕ, zero, suc, _+_, _<_, _≤_}
 use native.Mathlib.Omega.{arith}
 use lib.Dec.{eqb}
-use lib.ListN.{length, set}
+use borrow.Author.Tests.{ne-eqb}
+use lib.ListN.{length, set, length-set}
 use lib.Seq.{getD-set-same, getD-set-other}
+use Rattle.meaning.specs.Layout.{within}
 use Rattle.meaning.specs.Pool.{Rec}
-use Rattle.meaning.specs.Change.{Change, Mark, noted}
+use Rattle.meaning.specs.Change.{Change, Mark, noted as journalled}
 use Rattle.meaning.specs.Cursor.{State, kind}
 use Rattle.meaning.specs.Command.{Performed, answer}
+use Rattle.meaning.proofs.Facts.{test}
 use Rattle.slots.specs.Image.{bodyOf, shownOf}
-use Rattle.batch.specs.Work.{Out}
-use Rattle.batch.specs.Run.{noEntry, countN, entryOf}
+use Rattle.batch.specs.Work.{Did, noted, Out}
+use Rattle.batch.specs.Run.{noEntry, countN, entryOf, notedN}
 use Rattle.batch.specs.Image.{workIn, changesIn, changeOf}
 use Rattle.batch.specs.declared.journal.Entry.{Entry}
 
@@ -43,12 +46,44 @@ longer n es e i h k =
 
 -- one change more
 pub notes-more : {m : Option Mark} (n : ℕ) (es : List Entry) (e : Entry) (c : Change) → changeOf e ≡ c → n < length es → Notes m n es
-    → Notes (noted c m) (n + 1) (set es n e)
-unfolding noted
+    → Notes (journalled c m) (n + 1) (set es n e)
+unfolding journalled
 notes-more n es e c i h shut = shut
 notes-more n es e c i h (kept k) =
     let next : suc n ≡ n + 1 = omega arith in
     kept (longer n es e i h k ∙ ap (λ (j : ℕ). changesIn j (set es n e)) next)
+
+-- ---- the journal after a command
+
+-- no longer, no shorter
+pub noted-length : (n : ℕ) (es : List Entry) (d : Did) → length (notedN es n d) ≡ length es
+unfolding notedN
+noted-length n es d = go (noted (d .change))
+  where
+    go : (t : Bool) → length (cond t (set es n (entryOf d)) es) ≡ length es
+    go true = length-set es n (entryOf d)
+    go false = refl
+
+notes-unset : {m : Option Mark} (i n : ℕ) (es : List Entry) (e : Entry) → i ≤ n → Notes m i (set es n e) → Notes m i es
+notes-unset i n es e h shut = shut
+notes-unset i n es e h (kept k) = kept (k ∙ changes-set i n es e h)
+
+not-noted : (i : ℕ) {change : ℕ} → noted i ≡ true → noted change ≡ false → change ≡ i → ⊥
+not-noted i t h e = let z : _≡_ {A = ℕ} 0 1 = cc in omega arith
+
+no-more : (n change : ℕ) → noted change ≡ false → countN n change ≤ n
+unfolding countN noted within
+no-more n change h = simp (ne-eqb change 1 (not-noted 1 refl h), ne-eqb change 2 (not-noted 2 refl h)) (go (eqb change 3))
+  where
+    go : (t : Bool) → cond t 0 n ≤ n
+    go true = omega arith
+    go false = omega arith
+
+-- A command that is not journalled leaves the journal as it is.
+pub noted-notes : {m : Option Mark} (n : ℕ) (es : List Entry) (d : Did) → Notes m (countN n (d .change)) (set es n (entryOf d))
+    → Notes m (countN n (d .change)) (notedN es n d)
+unfolding notedN
+noted-notes n es d l = test (noted (d .change)) (λ t. simp t l) (λ t. simp t (notes-unset (countN n (d .change)) n es (entryOf d) (no-more n (d .change) t) l))
 
 -- a command that has done what `meaning` says: the body and the state, the answer's fields, and the journal after it
 pub record Agrees (s : State) (q : Performed) (o : Out) : Type 0 where

@@ -25,7 +25,7 @@ use Rattle.meaning.proofs.Good.{Parsed}
 use Rattle.meaning.proofs.Batches.{AllParsed, and-then, commands-parsed, begun-good, run-good, ended-good}
 use Rattle.meaning.proofs.Packed.{written-header}
 use Rattle.meaning.proofs.Pools.{sound-pool}
-use Rattle.meaning.proofs.Sections.{get-part}
+use Rattle.fields.proofs.Spans.{get-part}
 use Rattle.meaning.proofs.Sizes.{batch-sizes}
 use Rattle.slots.specs.Head.{loadN, storeN}
 use Rattle.slots.specs.Image.{bodyOf, headOf}

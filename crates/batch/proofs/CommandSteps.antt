@@ -1,27 +1,51 @@
 -- The tests that commands share, branch by branch. Assumes nothing.
 use mathlib.Core.Bool.{Bool, true, false, not}
 use mathlib.Core.List.{List}
-use mathlib.Core.Path.{_≡_, sym, _∙_}
-use Prim.Native.Nat.{ℕ, _+_, _*_}
+use mathlib.Core.Path.{_≡_, sym, ap, _∙_}
+use Prim.Native.Nat.{ℕ, _+_, _*_, _-_, _≤_}
 use native.Mathlib.Omega.{arith}
 use lib.Dec.{leb, ltb}
-use lib.ListN.{length}
+use lib.ListN.{length, take, drop}
 use borrow.Author.Tests.{eq-eqb, ne-eqb, le-leb, lt-leb, leb-true, leb-false, lt-ltb, le-ltb, not-true, not-false}
 use Rattle.fields.specs.Number.{getLE}
 use Rattle.avl.specs.Tree.{Dir, left, right, flip}
 use Rattle.tree.specs.Node.{way, keyN}
 use Rattle.meaning.specs.Layout.{within}
 use Rattle.meaning.proofs.Facts.{test}
+use Rattle.fields.proofs.Spans.{get-part}
 use Rattle.batch.specs.Tests.{commandN, namedN, pastN, betweenN}
 use Rattle.batch.specs.declared.command.Command.{Command}
 
--- What `read_command` reads, in its order.
-pub command-read : (w : List ℕ) (k : ℕ) {key stamp at len slot op tree : ℕ} → key ≡ getLE 8 w (16 + 24 * k + 8)
-    → stamp ≡ getLE 4 w (16 + 24 * k + 4) → at ≡ getLE 4 w (16 + 24 * k + 16) → len ≡ getLE 2 w (16 + 24 * k + 20)
-    → slot ≡ getLE 2 w (16 + 24 * k + 2) → op ≡ getLE 1 w (16 + 24 * k) → tree ≡ getLE 1 w (16 + 24 * k + 1)
-    → _≡_ {A = Command} (record { key = key; stamp = stamp; at = at; len = len; slot = slot; op = op; tree = tree }) (commandN w k)
-unfolding commandN
-command-read w k e1 e2 e3 e4 e5 e6 e7 = (cc)
+-- ---- a command
+
+module _ (w : List ℕ) (k : ℕ) (fits : 16 + 24 * (k + 1) ≤ length w) where
+  abbrev start : ℕ
+  start = 16 + 24 * k
+
+  -- its bytes
+  abbrev row : List ℕ
+  row = take (start + 24 - start) (drop start w)
+
+  in-place : (f n : ℕ) → f + n ≤ 24 → getLE n row f ≡ getLE n w (start + f)
+  in-place f n h =
+      let whole : start + 24 - start ≡ 24 = omega arith in
+      ap (λ (i : ℕ). getLE n (take i (drop start w)) f) whole ∙ get-part w start 24 f n h (omega (arith, fits))
+
+  -- What `read_command` reads, in its order.
+  pub command-read : {key stamp at len slot op tree : ℕ} → key ≡ getLE 8 row 8 → stamp ≡ getLE 4 row 4 → at ≡ getLE 4 row 16
+      → len ≡ getLE 2 row 20 → slot ≡ getLE 2 row 2 → op ≡ getLE 1 row 0 → tree ≡ getLE 1 row 1
+      → _≡_ {A = Command} (record { key = key; stamp = stamp; at = at; len = len; slot = slot; op = op; tree = tree }) (commandN w k)
+  unfolding commandN
+  command-read e1 e2 e3 e4 e5 e6 e7 =
+      let first : start + 0 ≡ start = omega arith in
+      let f1 = in-place 8 8 (omega arith) in
+      let f2 = in-place 4 4 (omega arith) in
+      let f3 = in-place 16 4 (omega arith) in
+      let f4 = in-place 20 2 (omega arith) in
+      let f5 = in-place 2 2 (omega arith) in
+      let f6 = in-place 0 1 (omega arith) in
+      let f7 = in-place 1 1 (omega arith) in
+      (cc)
 
 -- ---- a number within 1 to hi
 

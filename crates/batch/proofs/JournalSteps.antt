@@ -9,14 +9,13 @@ use lib.ListN.{length, getD}
 use Rattle.avl.specs.Tree.{right}
 use Rattle.tree.specs.Search.{Ending, seekN}
 use Rattle.tree.specs.declared.node.AvlTree.{AvlTree}
-use Rattle.meaning.specs.Cursor.{nowhere}
 use Rattle.slots.specs.Record.{recordN}
 use Rattle.slots.specs.Head.{treeN}
 use Rattle.slots.specs.Change.{Image, putRecN, dropRecN, cutN}
 use Rattle.slots.specs.declared.head.Head.{Head}
 use Rattle.slots.specs.declared.record.Record.{Record}
 use Rattle.batch.specs.Work.{Work}
-use Rattle.batch.specs.Run.{noEntry, undoOneN, undoN, rollBackN}
+use Rattle.batch.specs.Run.{noEntry, undoOneN, undoN, rollBackN, begunN}
 use Rattle.batch.specs.declared.journal.Entry.{Entry}
 
 module _ (m : List ℕ) (h : Head) (e : Entry) where
@@ -61,8 +60,7 @@ module _ {m₀ : List ℕ} {es : List Entry} {all : Image} {m : List ℕ} {h : H
 -- ---- a mark rolled back
 
 -- What `roll_back` calls, in its order.
-pub roll-steps : (n : ℕ) (m : List ℕ) (w : Work) (es : List Entry) {o u : Image} → o ≡ undoN n m (w .head) es
-    → u ≡ cutN (o .0) (o .1) (w .used)
-    → _≡_ {A = List ℕ × Work} (u .0, record { head = u .1; cursor = nowhere; marked = false; used = 0 }) (rollBackN n m w es)
-unfolding rollBackN
-roll-steps n m w es e1 e2 = (cc)
+pub roll-steps : (n : ℕ) (m : List ℕ) (h : Head) (mark : ℕ) (es : List Entry) {o u : Image} → o ≡ undoN n m h es → u ≡ cutN (o .0) (o .1) mark
+    → (w : Work) → h ≡ w .head → mark ≡ w .used → _≡_ {A = List ℕ × Work} (u .0, begunN (u .1)) (rollBackN n m w es)
+unfolding rollBackN begunN
+roll-steps n m h mark es e1 e2 w e3 e4 = (cc)

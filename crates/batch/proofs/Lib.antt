@@ -22,6 +22,8 @@ pub mod CursorSteps
 pub mod StateSteps
 pub mod MarkSteps
 pub mod JournalSteps
+pub mod TableSteps
+pub mod Mild
 pub mod RunSteps
 pub mod DoorSteps
 pub mod LookSteps
@@ -29,4 +31,4 @@ pub mod RemoveSteps
 pub mod AddSteps
 pub mod PerformSteps
 pub mod BatchSteps
-pub mod OneToOne
+pub mod Turns

@@ -8,9 +8,9 @@ use Prim.Native.Nat.{ℕ, zero, suc, _+_, _*_, _≤_, _<_}
 use native.Mathlib.Decide.{ℕ-discrete}
 use native.Mathlib.Omega.{arith}
 use lib.Dec.{eqb}
-use lib.ListN.{length, drop, set, length-append, length-drop, length-set}
+use lib.ListN.{length, drop, length-append, length-drop}
 use lib.Seq.{drop-drop}
-use Rattle.meaning.specs.Layout.{span}
+use Rattle.meaning.specs.Layout.{span, within}
 use Rattle.meaning.specs.Pool.{Rec, Pool}
 use Rattle.meaning.specs.Change.{Mark, rollback, rolledBack}
 use Rattle.meaning.specs.Cursor.{Command, State, nowhere, kind}
@@ -24,13 +24,13 @@ use Rattle.slots.specs.Image.{bodyOf, headOf, shownOf}
 use Rattle.slots.specs.declared.head.Head.{Head}
 use Rattle.slots.proofs.Closing.{answer-image, answer-length, answer-next}
 use Rattle.batch.specs.Tests.{commandN}
-use Rattle.batch.specs.Work.{Work, Did, Out}
+use Rattle.batch.specs.Work.{Work, Did, noted, Out}
 use Rattle.batch.specs.Ops.{silentN, rollbackN, at-op, performN}
-use Rattle.batch.specs.Run.{countN, entryOf, endN, rollBackN, Ran, answeredN, runN}
+use Rattle.batch.specs.Run.{countN, notedN, endN, rollBackN, Ran, answeredN, runN}
 use Rattle.batch.specs.Image.{markUsed, workIn, meantBy}
 use Rattle.batch.specs.declared.command.Command.{Command as CodeCommand}
 use Rattle.batch.specs.declared.journal.Entry.{Entry}
-use Rattle.batch.proofs.Agreeing.{Notes, shut, notes-same, Agrees}
+use Rattle.batch.proofs.Agreeing.{Notes, shut, noted-length, noted-notes, Agrees}
 use Rattle.batch.proofs.Markings.{rollback-refused, rollback-asks, rollback-done}
 use Rattle.batch.proofs.Performing.{perform-agrees}
 use Rattle.batch.proofs.Unrolling.{roll-work, kept-changes, roll-image}
@@ -54,7 +54,7 @@ unfoldable turnN : ℕ → List ℕ → List ℕ → List ℕ → List Entry →
 turnN f b names o es n k r =
     let d = r .1 in
     let answers = answeredN o k d in
-    let notes = set es n (entryOf d) in
+    let notes = notedN es n d in
     let count = countN n (d .change) in
     let u = rollBackN count (r .0) (d .work) notes in
     let on = runN f (r .0) b names answers (d .work) notes count (k + 1) in
@@ -88,7 +88,7 @@ module _ (f : ℕ) (b names done o : List ℕ) (es : List Entry) (n k : ℕ) (th
   unfolding turnN workIn
   agreed-turn s q r a l =
       let d = r .1 in
-      let notes = set es n (entryOf d) in
+      let notes = notedN es n d in
       let count = countN n (d .change) in
       let u = rollBackN count (r .0) (d .work) notes in
       let back = runN f (u .0) b names (answeredN (done ++ o) k d) (u .1) notes 0 (k + 1) in
@@ -96,9 +96,9 @@ module _ (f : ℕ) (b names done o : List ℕ) (es : List Entry) (n k : ℕ) (th
       record {
         entries = notes;
         count = count;
-        room = length-set es n (entryOf d);
+        room = noted-length n es d;
         low = count-low n (d .change);
-        notes = a .notes n es there l;
+        notes = noted-notes n es d (a .notes n es there l);
         whole = ap length (a .answer-is) ∙ answer-length (d .code) (kind (q .state .cursor)) (d .slot) (a .shown);
         goes = ap (λ (t : Bool). cond t back (runN f (r .0) b names (answeredN (done ++ o) k d) (d .work) notes count (k + 1))) (a .goes-on)
             ∙ ap₂ (λ (m : List ℕ) (u : Work). runN f m b names (answeredN (done ++ o) k d) u notes count (k + 1)) (a .body) (a .work)
@@ -112,21 +112,20 @@ module _ (f : ℕ) (b names done o : List ℕ) (es : List Entry) (n k : ℕ) (th
       → Turn f b names done o es n k
       (record { state = record { pool = rollback m (s .pool); cursor = nowhere; mark = none }; answer = answer 0 0 0 none })
       (turnN f b names (done ++ o) es n k (bodyOf (s .pool), silentN (headOf (s .pool)) true (m .used) 4))
-  unfolding turnN countN silentN workIn isOpen markUsed shownOf kind
+  unfolding turnN countN notedN noted within silentN workIn isOpen markUsed shownOf kind
   rolled-turn w s g m i l =
       let p = s .pool in
       let d = silentN (headOf p) true (m .used) 4 in
-      let notes = set es n (entryOf d) in
       let j : Journal w (some m) p = subst (λ (x : Option Mark). Journal w x p) i (g .journal) in
-      let back = roll-work w m p j (g .pool) (d .work) refl refl n notes (kept-changes m (notes-same n es (entryOf d) l) i) in
+      let back = roll-work w m p j (g .pool) (d .work) refl refl n es (kept-changes m l i) in
       record {
-        entries = notes;
+        entries = es;
         count = 0;
-        room = length-set es n (entryOf d);
+        room = refl;
         low = omega arith;
         notes = shut;
         whole = answer-length 0 0 0 none;
-        goes = ap₂ (λ (u : List ℕ × Work) (l : List ℕ). runN f (u .0) b names l (u .1) notes 0 (k + 1)) back
+        goes = ap₂ (λ (u : List ℕ × Work) (l : List ℕ). runN f (u .0) b names l (u .1) es 0 (k + 1)) back
             (answered done o k d (answer 0 0 0 none) none e h refl (λ _. refl) refl);
       }
 

@@ -1,8 +1,8 @@
 -- The commands on the body and the state, op by op: which record, the first test that refuses, and how the command ends. Assumes nothing.
-use mathlib.Core.Bool.{Bool, true, false, cond, not}
+use mathlib.Core.Bool.{Bool, true, false, cond, not, _||_}
 use mathlib.Core.List.{List}
 use Prim.Native.Nat.{ℕ}
-use lib.Dec.{eqb}
+use lib.Dec.{eqb, ltb}
 use Rattle.avl.specs.Tree.{Dir, left, right}
 use Rattle.tree.specs.Walk.{bottomN, walkN}
 use Rattle.tree.specs.Search.{Ending, seekN}
@@ -153,6 +153,17 @@ resetN m w =
     cond (w .marked) (m, refusedN (placed w nowhere) 24) out
 
 -- ---- one command
+
+-- the tree that a command works on: its own up to op 11, then the cursor's
+unfoldable pub treeOf : Cursor → Command → ℕ
+treeOf k c = cond (ltb (c .op) 12) (c .tree) (cursorTree k)
+
+-- the ops that add or remove a record, and those that settle a mark or reset
+unfoldable pub alters : ℕ → Bool
+alters op = eqb op 1 || (eqb op 3 || (eqb op 4 || within 16 25 op))
+
+unfoldable pub settles : ℕ → Bool
+settles op = within 26 29 op
 
 module _ (m names : List ℕ) (w : Work) (c : Command) where
   -- the command at its op's number

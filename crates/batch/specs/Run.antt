@@ -1,7 +1,7 @@
 -- The changes since a mark undone, and the commands of a batch in turn, on the body. Assumes nothing.
 use mathlib.Core.Bool.{Bool, true, false, cond}
 use mathlib.Core.List.{List, []}
-use Prim.Native.Nat.{ℕ, zero, suc, _+_}
+use Prim.Native.Nat.{ℕ, zero, suc, _+_, _-_}
 use lib.Dec.{eqb}
 use lib.ListN.{getD, set, replicate}
 use Rattle.avl.specs.Tree.{right}
@@ -12,8 +12,10 @@ use Rattle.slots.specs.Head.{treeN}
 use Rattle.slots.specs.Change.{Image, putRecN, dropRecN, cutN}
 use Rattle.slots.specs.Answer.{putAnswerN}
 use Rattle.slots.specs.declared.head.Head.{Head}
+use Rattle.tree.specs.declared.node.AvlTree.{AvlTree}
+use Rattle.meaning.specs.Layout.{within}
 use Rattle.batch.specs.Tests.{commandN}
-use Rattle.batch.specs.Work.{Work, Did}
+use Rattle.batch.specs.Work.{Work, Did, noted}
 use Rattle.batch.specs.Ops.{performN}
 use Rattle.batch.specs.declared.journal.Entry.{Entry}
 
@@ -46,8 +48,19 @@ rollBackN n m w es =
 unfoldable pub countN : ℕ → ℕ → ℕ
 countN n change = cond (eqb change 1) (n + 1) (cond (eqb change 2) (n + 1) (cond (eqb change 3) 0 n))
 
+-- where tree t stands in the table, and a choice by whether t is a tree's number
+unfoldable pub placeN : ℕ → ℕ
+placeN t = cond (within 1 8 t) (t - 1) 0
+
+unfoldable pub pickN : ℕ → AvlTree → AvlTree → AvlTree
+pickN t v other = cond (within 1 8 t) v other
+
 abbrev pub entryOf : Did → Entry
 entryOf d = record { rec = d .rec; slot = d .slot; added = eqb (d .change) 1 }
+
+-- the journal after a command: a change stands behind the n that are there
+unfoldable pub notedN : List Entry → ℕ → Did → List Entry
+notedN es n d = cond (noted (d .change)) (set es n (entryOf d)) es
 
 -- at the end a mark that is open is rolled back
 unfoldable pub endN : List ℕ → Work → List Entry → ℕ → List ℕ × Work
@@ -70,7 +83,7 @@ runN (suc f) m b names o w es n k =
     let r = performN m names w (commandN b k) in
     let d = r .1 in
     let answers = answeredN o k d in
-    let notes = set es n (entryOf d) in
+    let notes = notedN es n d in
     let count = countN n (d .change) in
     let u = rollBackN count (r .0) (d .work) notes in
     let on = runN f (r .0) b names answers (d .work) notes count (k + 1) in

@@ -1,32 +1,37 @@
 -- What a batch carries from one command to the next, and the ways in which a command ends, on the body. The cursor's cases are those of
 -- `meaning`. Assumes nothing.
-use mathlib.Core.Bool.{Bool, cond}
+use mathlib.Core.Bool.{Bool, cond, not}
 use mathlib.Core.List.{List}
 use Prim.Native.Nat.{ℕ}
 use lib.Dec.{eqb}
 use Rattle.avl.specs.Tree.{Dir, left, right, alike}
 use Rattle.tree.specs.Node.{way}
 use Rattle.tree.specs.Walk.{walkN}
+use Rattle.meaning.specs.Layout.{within}
 use Rattle.meaning.specs.Cursor.{Cursor, nowhere, occupied, vacant, firstEntry, lastEntry}
+use Rattle.tree.specs.Insert.{moreN}
+use Rattle.tree.specs.Remove.{lessN}
+use Rattle.tree.specs.declared.node.AvlTree.{AvlTree}
 use Rattle.slots.specs.Record.{noRecord, recordN}
-use Rattle.slots.specs.Change.{dropRecN, addRecN}
+use Rattle.slots.specs.Head.{setTreeN}
+use Rattle.slots.specs.Change.{dropRecN, addRecN, plusN, riseN}
 use Rattle.slots.specs.declared.head.Head.{Head}
 use Rattle.slots.specs.declared.record.Record.{Record}
 use Rattle.batch.specs.declared.command.Command.{Command}
 use Rattle.batch.specs.declared.cursor.Cursor.{Cursor as CodeCursor}
-use Rattle.batch.specs.declared.cursor.Cursor.the-variants.{Nowhere, Occupied, Vacant, First, Last}
+use Rattle.batch.specs.declared.mark.Settled.{Settled}
 use Rattle.batch.specs.declared.state.Batch.{Batch}
+use Rattle.batch.specs.declared.state.Sight.{Sight}
 use Rattle.batch.specs.declared.state.Step.{Step}
 
 -- ---- the cursor
 
--- what the cases of the code's cursor stand for
-abbrev pub cursorOf : CodeCursor → Cursor
-cursorOf Nowhere = nowhere
-cursorOf (Occupied t x) = occupied t x
-cursorOf (Vacant t x d k) = vacant t x (way d) k
-cursorOf (First t x) = firstEntry t x
-cursorOf (Last t x) = lastEntry t x
+-- what the code's cursor stands for
+unfoldable pub cursorOf : CodeCursor → Cursor
+cursorOf c =
+    let hung : Cursor = vacant (c .tree) (c .slot) (way (not (eqb (c .side) 0))) (c .key) in
+    let atEnd : Cursor = cond (eqb (c .kind) 3) (firstEntry (c .tree) (c .slot)) (lastEntry (c .tree) (c .slot)) in
+    cond (eqb (c .kind) 0) nowhere (cond (eqb (c .kind) 1) (occupied (c .tree) (c .slot)) (cond (eqb (c .kind) 2) hung atEnd))
 
 -- the record on side d of the cursor, by the links
 unfoldable pub besideN : List ℕ → Dir → Cursor → ℕ
@@ -58,8 +63,22 @@ pub record Work : Type 0 where
   pub marked : Bool
   pub used : ℕ
 
-abbrev pub workOf : Batch → Work
-workOf b = record { head = b .head; cursor = cursorOf (b .cursor); marked = b .marked; used = b .used }
+-- what the numbers of the code's state and the tree table beside it stand for
+abbrev pub headOf : Batch → List AvlTree → Head
+headOf b ts =
+    record {
+      slots = b .slots;
+      trees = b .trees;
+      live = b .live;
+      free = b .free;
+      size = b .size;
+      used = b .used;
+      next = b .next;
+      table = ts;
+    }
+
+abbrev pub workOf : Batch → List AvlTree → Work
+workOf b ts = record { head = headOf b ts; cursor = cursorOf (b .cursor); marked = b .marked; used = b .mark }
 
 unfoldable pub placed : Work → Cursor → Work
 placed w k = record { head = w .head; cursor = k; marked = w .marked; used = w .used }
@@ -78,8 +97,44 @@ pub record Did : Type 0 where
   pub rec : Record
   pub change : ℕ
 
-abbrev pub didOf : Step → Did
-didOf s = record { work = workOf (s .batch); code = s .code; slot = s .slot; rec = s .rec; change = s .change }
+-- a command that shows the record of a slot
+abbrev pub sightOf : List ℕ → Work → Sight → Did
+sightOf m w s = record { work = placed w (cursorOf (s .cursor)); code = s .code; slot = s .slot; rec = recordN m (s .slot); change = 0 }
+
+-- whether what is to be journalled is an addition or a removal
+unfoldable pub noted : ℕ → Bool
+noted change = within 1 2 change
+
+-- the table after the change of a tree
+unfoldable pub tableAfter : List AvlTree → Step → List AvlTree
+tableAfter ts s = cond (noted (s .change)) (setTreeN ts (s .rec .tree) (s .tree)) ts
+
+-- the head after no change, after a record was added, after one was removed
+unfoldable pub headAfter : Head → Step → Head
+headAfter h s =
+    let added : Bool = eqb (s .change) 1 in
+    let changed : Head = record {
+      slots = h .slots;
+      trees = h .trees;
+      live = cond added (moreN (h .live)) (lessN (h .live));
+      free = s .free;
+      size = h .size;
+      used = cond added (plusN (h .used) (s .rec .len)) (h .used);
+      next = cond added (riseN (h .next)) (h .next);
+      table = setTreeN (h .table) (s .rec .tree) (s .tree);
+    } in
+    cond (noted (s .change)) changed h
+
+abbrev pub stepped : Work → Step → Work
+stepped w s = record { head = headAfter (w .head) s; cursor = cursorOf (s .cursor); marked = w .marked; used = w .used }
+
+-- a command that adds or removes a record
+abbrev pub stepOf : Work → Step → Did
+stepOf w s = record { work = stepped w s; code = s .code; slot = s .slot; rec = s .rec; change = s .change }
+
+-- a command that does neither
+abbrev pub settledOf : Settled → Did
+settledOf s = record { work = workOf (s .batch) (s .table); code = s .code; slot = 0; rec = noRecord; change = s .change }
 
 unfoldable pub refusedN : Work → ℕ → Did
 refusedN w e = record { work = w; code = e; slot = 0; rec = noRecord; change = 0 }
@@ -101,11 +156,15 @@ takeOutN m w e x done lost =
     let out : Out = (o .0, record { work = headed w (o .1) done; code = 0; slot = x; rec = v; change = 2 }) in
     cond (eqb e 0) out (m, refusedN (placed w lost) e)
 
+-- the record of the command in tree t
+abbrev pub newRecord : Head → Command → ℕ → Record
+newRecord h c t = record { key = c .key; stamp = h .next; start = h .used; len = c .len; tree = t }
+
 -- adds the record of the command to tree t, below p on side d
 unfoldable pub addNewN : List ℕ → List ℕ → Work → Command → ℕ → ℕ → ℕ → Dir → Cursor → Cursor → Out
 addNewN m names w c e t p d done lost =
     let h = w .head in
-    let v : Record = record { key = c .key; stamp = h .next; start = h .used; len = c .len; tree = t } in
+    let v = newRecord h c t in
     let o = addRecN m h v names (c .at) p d in
     let out : Out = (o .0, record { work = headed w (o .1) done; code = 0; slot = h .free; rec = v; change = 1 }) in
     cond (eqb e 0) out (m, refusedN (placed w lost) e)

@@ -3,7 +3,9 @@ ghost use mathlib.Core.Path.{_≡_};
 ghost use mathlib.Core.Bool.{cond, not};
 ghost use lib.Dec.{eqb};
 ghost use Rattle.tree.specs.Node.{way};
-ghost use Rattle.batch.specs.Work.{cursorOf, workOf, didOf};
+ghost use Rattle.meaning.specs.Cursor.{cursorTree};
+ghost use Rattle.slots.specs.Head.{treeN};
+ghost use Rattle.batch.specs.Work.{cursorOf, workOf, stepOf};
 ghost use Rattle.batch.specs.Ops.{addN, insertBesideN, insertNodeN, insertEndN, kindAt, lostEndN, afterInsertN};
 use super::command::Command;
 use super::command::is_bad_name;
@@ -18,16 +20,24 @@ use super::state::add_new;
 use tree::dir::Dir;
 use tree::insert::Spot;
 use tree::insert::beside;
+use tree::node::AvlTree;
 
 // 1 add.
-pub fn add(body: &mut [u8], names: &[u8], b: Batch, c: Command) -> Step
-    ensures { λ r. ⌜ (now (body .exit), didOf r) ≡ addN (now (body .entry)) (now (names .entry)) (workOf b) c ⌝ }
+pub fn add(
+    body: &mut [u8],
+    names: &[u8],
+    b: Batch,
+    ts: [AvlTree; 8],
+    u: AvlTree,
+    c: Command,
+) -> Step
+    requires { ⌜ u ≡ treeN ts (c .tree) ⌝ }
+    ensures { λ r. ⌜ (now (body .exit), stepOf (workOf b ts) r) ≡ addN (now (body .entry)) (now (names .entry)) (workOf b ts) c ⌝ }
 {
-    let h = b.head;
-    let p = tree::search::entry(body, h.tree(c.tree), c.key);
-    let f = refuse(p.slot != 0, 17, room(h, c.len));
+    let p = tree::search::entry(body, u, c.key);
+    let f = refuse(p.slot != 0, 17, room(b, c.len));
     let g = refuse(is_bad_name(names, c.at, c.len), 13, f);
-    let e = refuse(is_outside(h.trees, c.tree as u16), 11, g);
+    let e = refuse(is_outside(b.trees, c.tree as u16), 11, g);
     let d = p.side;
     let s = Spot {
         parent: p.parent,
@@ -37,12 +47,14 @@ pub fn add(body: &mut [u8], names: &[u8], b: Batch, c: Command) -> Step
         body,
         names,
         b,
+        ts,
         c,
         e,
         c.tree,
+        u,
         s,
-        Cursor::Nowhere,
-        Cursor::Nowhere,
+        Cursor::NOWHERE,
+        Cursor::NOWHERE,
     )
 }
 
@@ -61,17 +73,19 @@ pub fn insert_beside(
     body: &mut [u8],
     names: &[u8],
     b: Batch,
+    ts: [AvlTree; 8],
+    u: AvlTree,
     c: Command,
     d: Dir,
     moves: bool,
 ) -> Step
-    ensures { λ r. ⌜ (now (body .exit), didOf r) ≡ insertBesideN (now (body .entry)) (now (names .entry)) (workOf b) c (way (d .0)) moves ⌝ }
+    requires { ⌜ u ≡ treeN ts (cursorTree (cursorOf (b .cursor))) ⌝ }
+    ensures { λ r. ⌜ (now (body .exit), stepOf (workOf b ts) r) ≡ insertBesideN (now (body .entry)) (now (names .entry)) (workOf b ts) c (way (d .0)) moves ⌝ }
 {
-    let h = b.head;
     let k = b.cursor;
     let x = k.standing();
     let y = k.beside(body, d);
-    let f = refuse(!is_between(body, d, x, y, c.key), 18, room(h, c.len));
+    let f = refuse(!is_between(body, d, x, y, c.key), 18, room(b, c.len));
     let g = refuse(is_bad_name(names, c.at, c.len), 13, f);
     let e = refuse(x == 0, 12, g);
     let s = beside(body, x, d);
@@ -79,26 +93,35 @@ pub fn insert_beside(
         body,
         names,
         b,
+        ts,
         c,
         e,
         k.tree(),
+        u,
         s,
-        after_insert(k, h.free, moves),
+        after_insert(k, b.free, moves),
         k,
     )
 }
 
 // 20 insert_node.
-pub fn insert_node(body: &mut [u8], names: &[u8], b: Batch, c: Command) -> Step
-    ensures { λ r. ⌜ (now (body .exit), didOf r) ≡ insertNodeN (now (body .entry)) (now (names .entry)) (workOf b) c ⌝ }
+pub fn insert_node(
+    body: &mut [u8],
+    names: &[u8],
+    b: Batch,
+    ts: [AvlTree; 8],
+    u: AvlTree,
+    c: Command,
+) -> Step
+    requires { ⌜ u ≡ treeN ts (cursorTree (cursorOf (b .cursor))) ⌝ }
+    ensures { λ r. ⌜ (now (body .exit), stepOf (workOf b ts) r) ≡ insertNodeN (now (body .entry)) (now (names .entry)) (workOf b ts) c ⌝ }
 {
-    let h = b.head;
     let k = b.cursor;
-    let f = refuse(k.is_other(c.key), 18, room(h, c.len));
+    let f = refuse(k.is_other(c.key), 18, room(b, c.len));
     let g = refuse(is_bad_name(names, c.at, c.len), 13, f);
     let e = refuse(k.kind() != 2, 12, g);
     let s = k.hung();
-    add_new(body, names, b, c, e, k.tree(), s, k.at(h.free), k)
+    add_new(body, names, b, ts, c, e, k.tree(), u, s, k.at(b.free), k)
 }
 
 // The cursor kind of an end: 3 the first entry, 4 the last.
@@ -116,19 +139,27 @@ fn lost_end(k: Cursor, e: u8) -> Cursor
     ensures { λ r. ⌜ cursorOf r ≡ lostEndN (cursorOf k) e ⌝ }
 {
     if e == 18 {
-        return Cursor::Nowhere;
+        return Cursor::NOWHERE;
     }
     k
 }
 
 // 24 append, 25 prepend. Nothing lies beyond the end.
-pub fn insert_end(body: &mut [u8], names: &[u8], b: Batch, c: Command, d: Dir) -> Step
-    ensures { λ r. ⌜ (now (body .exit), didOf r) ≡ insertEndN (now (body .entry)) (now (names .entry)) (workOf b) c (way (d .0)) ⌝ }
+pub fn insert_end(
+    body: &mut [u8],
+    names: &[u8],
+    b: Batch,
+    ts: [AvlTree; 8],
+    u: AvlTree,
+    c: Command,
+    d: Dir,
+) -> Step
+    requires { ⌜ u ≡ treeN ts (cursorTree (cursorOf (b .cursor))) ⌝ }
+    ensures { λ r. ⌜ (now (body .exit), stepOf (workOf b ts) r) ≡ insertEndN (now (body .entry)) (now (names .entry)) (workOf b ts) c (way (d .0)) ⌝ }
 {
-    let h = b.head;
     let k = b.cursor;
     let x = k.standing();
-    let f = refuse(!is_between(body, d, x, 0, c.key), 18, room(h, c.len));
+    let f = refuse(!is_between(body, d, x, 0, c.key), 18, room(b, c.len));
     let g = refuse(is_bad_name(names, c.at, c.len), 13, f);
     let e = refuse(k.kind() != kind_at(d), 12, g);
     let s = beside(body, x, d);
@@ -136,11 +167,13 @@ pub fn insert_end(body: &mut [u8], names: &[u8], b: Batch, c: Command, d: Dir) -
         body,
         names,
         b,
+        ts,
         c,
         e,
         k.tree(),
+        u,
         s,
-        k.end(d, h.free),
+        k.end(d, b.free),
         lost_end(k, e),
     )
 }

@@ -3,11 +3,14 @@ ghost use mathlib.Core.Path.{_≡_};
 ghost use mathlib.Core.Bool.{cond, not, _&&_};
 ghost use lib.Dec.{leb};
 ghost use lib.ListN.{length};
-ghost use Prim.Native.Nat.{_+_};
+ghost use mathlib.Core.List.{List};
+ghost use Prim.Native.Nat.{_+_, _*_, _≤_};
 ghost use Rattle.meaning.specs.Layout.{within};
 ghost use Rattle.tree.specs.Node.{way};
+ghost use Rattle.tree.specs.declared.node.AvlTree.{AvlTree};
+ghost use Rattle.batch.specs.Work.{headOf};
 ghost use Rattle.batch.specs.Tests.{commandN, namedN, roomN, handleN, pastN, betweenN};
-use slots::head::Head;
+use super::state::Batch;
 use slots::record::Record;
 use tree::dir::Dir;
 use tree::node::get_key;
@@ -25,17 +28,20 @@ pub struct Command {
 
 // Command k of the batch w.
 pub fn read_command(w: &[u8], k: u16) -> Command
+    requires { ⌜ 16 + 24 * (k + 1) ≤ length (now w) ⌝ }
     ensures { λ r. ⌜ r ≡ commandN (now (w .entry)) k ⌝ }
 {
     let at = 16 + 24 * (k as usize);
+    let end = at + 24;
+    let r = &w[at..end];
     Command {
-        key: fields::get_u64(w, at + 8),
-        stamp: fields::get_u32(w, at + 4),
-        at: fields::get_u32(w, at + 16),
-        len: fields::get_u16(w, at + 20),
-        slot: fields::get_u16(w, at + 2),
-        op: fields::get_u8(w, at),
-        tree: fields::get_u8(w, at + 1),
+        key: fields::get_u64(r, 8),
+        stamp: fields::get_u32(r, 4),
+        at: fields::get_u32(r, 16),
+        len: fields::get_u16(r, 20),
+        slot: fields::get_u16(r, 2),
+        op: fields::get_u8(r, 0),
+        tree: fields::get_u8(r, 1),
     }
 }
 
@@ -71,13 +77,13 @@ pub fn is_bad_name(names: &[u8], at: u32, len: u16) -> bool
 }
 
 // NO_SLOT, NO_TEXT, NO_STAMP.
-pub fn room(h: Head, len: u16) -> u8
-    ensures { λ r. ⌜ r ≡ roomN h len ⌝ }
+pub fn room(b: Batch, len: u16) -> u8
+    ensures { λ r. ⌜ ((ts : List AvlTree) → r ≡ roomN (headOf b ts) len) ⌝ }
 {
-    let wide = h.used as u64 + len as u64;
-    let e = refuse(h.next == 4_294_967_295, 22, 0);
-    let f = refuse((h.size as u64) < wide, 21, e);
-    refuse(h.free == 0, 20, f)
+    let wide = b.used as u64 + len as u64;
+    let e = refuse(b.next == 4_294_967_295, 22, 0);
+    let f = refuse((b.size as u64) < wide, 21, e);
+    refuse(b.free == 0, 20, f)
 }
 
 // STALE, OTHER_TREE, or what follows: v is the record of the command's slot.

@@ -1,10 +1,8 @@
 // The changes since a mark, undone last first.
 ghost use mathlib.Core.Path.{_≡_};
 ghost use Prim.Native.Nat.{_≤_};
-ghost use Rattle.batch.specs.Work.{workOf};
-ghost use Rattle.batch.specs.Run.{noEntry, undoOneN, undoN, rollBackN};
-use super::cursor::Cursor;
-use super::state::Batch;
+ghost use Rattle.batch.specs.Work.{Work};
+ghost use Rattle.batch.specs.Run.{noEntry, undoOneN, undoN, rollBackN, begunN};
 use slots::change::cut;
 use slots::change::drop_rec;
 use slots::change::put_rec;
@@ -59,18 +57,11 @@ fn undo(body: &mut [u8], start: Head, es: [Entry; 256], n: u16) -> Head
     h
 }
 
-// The changes undone, the text back to where it was at the mark, the mark closed.
-pub fn roll_back(body: &mut [u8], b: Batch, es: [Entry; 256], n: u16) -> Batch
+// The changes undone, and the text back to where it was at the mark.
+pub fn roll_back(body: &mut [u8], h: Head, mark: u32, es: [Entry; 256], n: u16) -> Head
     requires { ⌜ n ≤ 256 ⌝ }
-    ensures { λ r. ⌜ (now (body .exit), workOf r) ≡ rollBackN n (now (body .entry)) (workOf b) es ⌝ }
+    ensures { λ r. ⌜ ((w : Work) → h ≡ w .head → mark ≡ w .used → (now (body .exit), begunN r) ≡ rollBackN n (now (body .entry)) w es) ⌝ }
 {
-    let old = b.head;
-    let h = undo(body, old, es, n);
-    let g = cut(body, h, b.used);
-    Batch {
-        head: g,
-        cursor: Cursor::Nowhere,
-        marked: false,
-        used: 0,
-    }
+    let g = undo(body, h, es, n);
+    cut(body, g, mark)
 }

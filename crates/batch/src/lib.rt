@@ -15,8 +15,8 @@
 // | cursor.rt  | the one cursor, after entry.rs                                                   |
 // | command.rt | a command as it stands in a batch, and the tests that commands share             |
 mod add;
-pub mod command;
-pub mod cursor;
+mod command;
+mod cursor;
 pub mod door;
 mod journal;
 mod look;
@@ -24,4 +24,4 @@ mod mark;
 mod perform;
 mod remove;
 mod run;
-pub mod state;
+mod state;

@@ -1,77 +1,106 @@
-// Marks and reset. A mark's changes stand in the journal, which the batch's loop keeps; a rollback is
-// answered here and done there.
+// Marks and reset, and what is no op. A mark's changes stand in the journal, which the batch's loop keeps; a
+// rollback is answered here and done there.
+ghost use mathlib.Core.List.{List};
 ghost use mathlib.Core.Path.{_≡_};
-ghost use mathlib.Core.Bool.{true, false, not};
-ghost use Rattle.batch.specs.Work.{workOf, didOf};
+ghost use Rattle.meaning.specs.Cursor.{nowhere};
+ghost use Rattle.batch.specs.Work.{workOf, placed, refusedN, settledOf};
 ghost use Rattle.batch.specs.Ops.{silentN, markN, rollbackN, commitN, resetN};
-use super::command::refuse;
 use super::cursor::Cursor;
 use super::state::Batch;
-use super::state::Step;
+use super::state::head_of;
 use super::state::place;
-use super::state::refused;
 use slots::head::Head;
-use slots::record::nothing;
+use tree::node::AvlTree;
 
-// Done, with no record shown and no cursor: the state after it, and what is to be journalled.
-fn silent(h: Head, marked: bool, used: u32, change: u8) -> Step
-    ensures { λ r. ⌜ didOf r ≡ silentN h marked used change ⌝ }
+// What a command that shows, adds and removes nothing has done: the state after it, its code, and what is to
+// be journalled: 0 nothing, 3 a new journal begins, 4 the changes in the journal are to be undone.
+pub struct Settled {
+    pub batch: Batch,
+    pub table: [AvlTree; 8],
+    pub code: u8,
+    pub change: u8,
+}
+
+// Refused, and no cursor.
+pub fn refused(b: Batch, ts: [AvlTree; 8], e: u8) -> Settled
+    ensures { λ r. ⌜ settledOf r ≡ refusedN (placed (workOf b ts) nowhere) e ⌝ }
 {
-    Step {
-        batch: Batch {
-            head: h,
-            cursor: Cursor::Nowhere,
-            marked,
-            used,
-        },
+    Settled {
+        batch: place(b, Cursor::NOWHERE),
+        table: ts,
+        code: e,
+        change: 0,
+    }
+}
+
+// The state of a pool with this head, with no cursor.
+pub fn begun(h: Head, marked: bool, mark: u32) -> Batch
+    ensures { λ r. ⌜ workOf r (h .table) ≡ record { head = h; cursor = nowhere; marked = marked; used = mark } ⌝ }
+{
+    Batch {
+        slots: h.slots,
+        trees: h.trees,
+        live: h.live,
+        free: h.free,
+        size: h.size,
+        used: h.used,
+        next: h.next,
+        mark,
+        cursor: Cursor::NOWHERE,
+        marked,
+    }
+}
+
+// Done, with no record shown and no cursor.
+fn silent(h: Head, marked: bool, mark: u32, change: u8) -> Settled
+    ensures { λ r. ⌜ settledOf r ≡ silentN h marked mark change ⌝ }
+{
+    let ts = h.table;
+    Settled {
+        batch: begun(h, marked, mark),
+        table: ts,
         code: 0,
-        slot: 0,
-        rec: nothing(),
         change,
     }
 }
 
 // 26 mark.
-pub fn mark(b: Batch) -> Step
-    ensures { λ r. ⌜ didOf r ≡ markN (workOf b) ⌝ }
+pub fn mark(b: Batch, ts: [AvlTree; 8]) -> Settled
+    ensures { λ r. ⌜ settledOf r ≡ markN (workOf b ts) ⌝ }
 {
     if b.marked {
-        return refused(place(b, Cursor::Nowhere), 24);
+        return refused(b, ts, 24);
     }
-    let h = b.head;
-    silent(h, true, h.used, 3)
+    silent(head_of(b, ts), true, b.used, 3)
 }
 
 // 27 rollback.
-pub fn rollback(b: Batch) -> Step
-    ensures { λ r. ⌜ didOf r ≡ rollbackN (workOf b) ⌝ }
+pub fn rollback(b: Batch, ts: [AvlTree; 8]) -> Settled
+    ensures { λ r. ⌜ settledOf r ≡ rollbackN (workOf b ts) ⌝ }
 {
     if b.marked {
-        let h = b.head;
-        return silent(h, true, b.used, 4);
+        return silent(head_of(b, ts), true, b.mark, 4);
     }
-    refused(place(b, Cursor::Nowhere), 23)
+    refused(b, ts, 23)
 }
 
 // 28 commit.
-pub fn commit(b: Batch) -> Step
-    ensures { λ r. ⌜ didOf r ≡ commitN (workOf b) ⌝ }
+pub fn commit(b: Batch, ts: [AvlTree; 8]) -> Settled
+    ensures { λ r. ⌜ settledOf r ≡ commitN (workOf b ts) ⌝ }
 {
     if b.marked {
-        let h = b.head;
-        return silent(h, false, 0, 0);
+        return silent(head_of(b, ts), false, 0, 0);
     }
-    refused(place(b, Cursor::Nowhere), 23)
+    refused(b, ts, 23)
 }
 
 // 29 reset.
-pub fn reset(body: &mut [u8], b: Batch) -> Step
-    ensures { λ r. ⌜ (now (body .exit), didOf r) ≡ resetN (now (body .entry)) (workOf b) ⌝ }
+pub fn reset(body: &mut [u8], b: Batch, ts: [AvlTree; 8]) -> Settled
+    ensures { λ r. ⌜ (now (body .exit), settledOf r) ≡ resetN (now (body .entry)) (workOf b ts) ⌝ }
 {
     if b.marked {
-        return refused(place(b, Cursor::Nowhere), 24);
+        return refused(b, ts, 24);
     }
-    let old = b.head;
-    let h = slots::change::reset(body, old);
+    let h = slots::change::reset(body, head_of(b, ts));
     silent(h, false, 0, 0)
 }

@@ -12,6 +12,7 @@ use borrow.Author.Tests.{eq-eqb, ne-eqb, eqb-true, eqb-false}
 use Rattle.fields.specs.Part.{part, splice, zeros}
 use Rattle.fields.specs.Number.{value, getLE}
 use Rattle.fields.proofs.Parts.{splice-in, part-join, part-in, zeros-append}
+use Rattle.fields.proofs.Numbers.{zeros-value}
 
 -- ---- a store byte by byte
 
@@ -50,16 +51,6 @@ fill-end {b₀} {at} {n} {new} {b} {i} f h =
     ∙ sym (splice-in b₀ at new (omega arith))
 
 -- ---- a test for zeros, by numbers
-
-pub zeros-value : (bs : List ℕ) → zeros bs ≡ eqb (value bs) 0
-unfolding zeros value
-zeros-value [] = refl
-zeros-value (b ∷ bs) = ap (λ (t : Bool). eqb b 0 && t) (zeros-value bs) ∙ go (eqb b 0) (eqb (value bs) 0) refl refl
-  where
-    go : (s t : Bool) → eqb b 0 ≡ s → eqb (value bs) 0 ≡ t → (s && t) ≡ eqb (b + 256 * value bs) 0
-    go true true e f = sym (eq-eqb (b + 256 * value bs) 0 (omega (arith, eqb-true b 0 e, eqb-true (value bs) 0 f)))
-    go true false e f = sym (ne-eqb (b + 256 * value bs) 0 (λ z. eqb-false (value bs) 0 f (omega arith)))
-    go false t e f = sym (ne-eqb (b + 256 * value bs) 0 (λ z. eqb-false b 0 e (omega arith)))
 
 -- the first i of `count` bytes are 0
 pub record Scanned (b : List ℕ) (at count i : ℕ) : Type 0 where

@@ -1,15 +1,18 @@
 -- The laws of little-endian numbers, each once for every width: what a number reads as after a store, its bytes, its bound, and a number as two
 -- halves. Assumes nothing.
+use mathlib.Core.Bool.{Bool, true, false, _&&_}
 use mathlib.Core.List.{List, [], _∷_, _++_}
 use mathlib.Core.Path.{_≡_, refl, sym, ap, ap₂, _∙_}
 use Prim.Native.Nat.{ℕ, zero, suc, _+_, _*_, _/_, _%_, _≤_, _<_, _^_}
 use native.Mathlib.Omega.{arith}
 use native.Mathlib.Nat.{pow-suc, pow-succ', suc-add, mul-assoc, mul-comm, suc-mul, mul-le-mul-right, div-div-eq-div-mul}
 use native.Mathlib.Numerals.{add-one}
+use lib.Dec.{eqb}
 use lib.ListN.{length, getD, set, take}
+use borrow.Author.Tests.{eq-eqb, ne-eqb, eqb-true, eqb-false}
 use lib.Pow.{pow-add}
 use lib.Seq.{drop-cons, set-split}
-use Rattle.fields.specs.Part.{part, splice}
+use Rattle.fields.specs.Part.{part, splice, zeros}
 use Rattle.fields.specs.Number.{value, digits, getLE, putLE, Bytes, Loaded}
 use Rattle.fields.proofs.Parts.{Apart, part-in, part-out, splice-in, splice-out, length-part, length-splice, part-splice-same, part-splice-other, part-join, splice-join, splice-again, splice-apart}
 
@@ -127,6 +130,18 @@ get-byte bs at h = ap value (part-in bs at 1 (omega arith)) ∙ ap (λ (l : List
 pub put-byte : (bs : List ℕ) (at v : ℕ) → at < length bs → putLE 1 bs at v ≡ set bs at (v % 256)
 unfolding putLE digits
 put-byte bs at v h = splice-in bs at (v % 256 ∷ []) (omega arith) ∙ simp add-one (sym (set-split bs at (v % 256) h))
+
+-- ---- bytes that are all zero
+
+pub zeros-value : (bs : List ℕ) → zeros bs ≡ eqb (value bs) 0
+unfolding zeros value
+zeros-value [] = refl
+zeros-value (b ∷ bs) = ap (λ (t : Bool). eqb b 0 && t) (zeros-value bs) ∙ go (eqb b 0) (eqb (value bs) 0) refl refl
+  where
+    go : (s t : Bool) → eqb b 0 ≡ s → eqb (value bs) 0 ≡ t → (s && t) ≡ eqb (b + 256 * value bs) 0
+    go true true e f = sym (eq-eqb (b + 256 * value bs) 0 (omega (arith, eqb-true b 0 e, eqb-true (value bs) 0 f)))
+    go true false e f = sym (ne-eqb (b + 256 * value bs) 0 (λ z. eqb-false (value bs) 0 f (omega arith)))
+    go false t e f = sym (ne-eqb (b + 256 * value bs) 0 (λ z. eqb-false b 0 e (omega arith)))
 
 -- ---- what the loads are made of: nothing outside, one byte, and two halves of w bytes each
 

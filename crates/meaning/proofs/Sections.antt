@@ -12,7 +12,8 @@ use borrow.Author.Tests.{eqb-true}
 use Rattle.fields.specs.Number.{value, getLE, Bytes}
 use Rattle.fields.specs.Part.{part, zeros}
 use Rattle.fields.proofs.Numbers.{value-bound, get-out, load-absent}
-use Rattle.fields.proofs.Parts.{within?, part-in, part-out, part-append-left, part-append-right}
+use Rattle.fields.proofs.Parts.{within?, part-in, part-out}
+use Rattle.fields.proofs.Spans.{get-part}
 use Rattle.meaning.specs.Layout.{pack, rows}
 use Rattle.meaning.specs.Pool.{nSlots, nTrees, treeIn, entries, records}
 use Rattle.meaning.proofs.Facts.{both, rows-at, bytes-take, bytes-drop, unpack, widths, pack-unpack}
@@ -44,21 +45,6 @@ get-zeros w b i h =
 pub tree-none : treeIn [] ≡ 0
 unfolding treeIn zeros
 tree-none = get-zeros 1 [] 15 refl
-
--- A number read from a part of the bytes is the number read in place.
-pub get-part : (b : List ℕ) (i n k w : ℕ) → k + w ≤ n → i + n ≤ length b → getLE w (take n (drop i b)) k ≡ getLE w b (i + k)
-unfolding getLE
-get-part b i n k w h fits =
-    let q = take n (drop i b) in
-    let r = drop n (drop i b) in
-    let m : length q ≡ n = length-take-le n (drop i b) (rw length-drop (omega arith)) in
-    let l : length (take i b) ≡ i = length-take-le i b (omega arith) in
-    let e : take i b ++ (q ++ r) ≡ b = ap (λ (x : List ℕ). take i b ++ x) (take-append-drop n (drop i b)) ∙ take-append-drop i b in
-    ap value
-    (sym (part-append-left q r k w (omega arith))
-    ∙ sym (part-append-right (take i b) (q ++ r) k w)
-    ∙ ap (λ (j : ℕ). part (take i b ++ (q ++ r)) (j + k) w) l
-    ∙ ap (λ (x : List ℕ). part x (i + k) w) e)
 
 -- ---- rows
 

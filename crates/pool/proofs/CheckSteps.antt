@@ -1,6 +1,6 @@
 -- The loop over a pool's trees: each of its answers, by its tests and calls in the code's order. Assumes nothing.
-use mathlib.Core.Path.{_≡_}
-use mathlib.Core.Bool.{true, false, not}
+use mathlib.Core.Path.{_≡_, sym, _∙_}
+use mathlib.Core.Bool.{true, false}
 use mathlib.Core.List.{List, _∷_}
 use Prim.Native.Nat.{ℕ, suc, _+_, _*_, _-_, _≤_, _<_}
 use native.Mathlib.Numerals.{add-one}
@@ -8,12 +8,12 @@ use native.Mathlib.Omega.{arith}
 use lib.Dec.{eqb}
 use lib.ListN.{take, drop}
 use lib.Seq.{drop-drop}
-use borrow.Author.Tests.{eq-eqb, ne-eqb, not-true, not-false}
+use borrow.Author.Tests.{eq-eqb, ne-eqb}
 use Rattle.fields.specs.Number.{getLE}
 use Rattle.meaning.specs.Layout.{rows}
 use Rattle.meaning.specs.Pool.{rootOf, countOf}
-use Rattle.pool.specs.declared.walk.Walk.{Walk}
-use Rattle.pool.specs.Check.{linkN, treesN}
+use Rattle.meaning.proofs.Facts.{test}
+use Rattle.pool.specs.Check.{Walk, linkN, treesN, found}
 
 -- the entries of t trees from the one at i on, and the bytes of that one as the code cuts them out
 unfoldable pub from : List ℕ → ℕ → ℕ → List (List ℕ)
@@ -30,6 +30,15 @@ next b t i h =
     let d : 32 + 8 * i + 8 ≡ 32 + 8 * (i + 1) = omega arith in
     rw (q, w, ← d, ← drop-drop 8 (32 + 8 * i) b)
 
+-- what the number of a tree says of its walk
+found-none : (f : Walk) → found f ≡ 0 → f .ok ≡ false
+unfolding found
+found-none f e = test (f .ok) (λ t. absurd (omega (arith, rw t at e))) (λ t. t)
+
+found-some : (f : Walk) (w : ℕ) → w ≡ found f → (w ≡ 0 → ⊥) → (f .ok ≡ true) × (f .seen ≡ w - 1)
+unfolding found
+found-some f w e n = test (f .ok) (λ t. (t, omega (arith, rw t at e))) (λ t. absurd (n (rw t at e)))
+
 -- i of the t trees have passed, with so many records: the check of the others is the check of all
 pub record Passed (m : List ℕ) (N live t : ℕ) (b : List ℕ) (i total : ℕ) : Type 0 where
   pub come : i ≤ t
@@ -45,24 +54,27 @@ module _ {m : List ℕ} {N live t : ℕ} {b : List ℕ} {i total : ℕ} (s : Pas
   unfolding treesN rows from
   pass-end h = let q : t - i ≡ 0 = omega (arith, s .come) in rw q at (s .same)
 
-  module _ (h : i < t) {x : ℕ} (e : x ≡ getLE 2 (cut b i) 0) {w : Walk} (f : w ≡ linkN m N (i + 1) 14 0 x 0 0) where
+  module _ (h : i < t) {x : ℕ} (e : x ≡ getLE 2 (cut b i) 0) {w : ℕ} (f : w ≡ found (linkN m N (i + 1) 14 0 x 0 0)) where
     turn : treesN m N live (i + 1) total (cut b i ∷ from b t (i + 1)) ≡ treesN m N live 1 0 (rows t 8 (drop 32 b))
     turn = rw (next b t i h) at (s .same)
 
-    pub pass-bad : not (w .ok) ≡ true → false ≡ treesN m N live 1 0 (rows t 8 (drop 32 b))
+    pub pass-bad : w ≡ 0 → false ≡ treesN m N live 1 0 (rows t 8 (drop 32 b))
     unfolding treesN rootOf
-    pass-bad g = simp (← e, ← f, not-true (w .ok) g) at turn
+    pass-bad g = simp (← e, found-none (linkN m N (i + 1) 14 0 x 0 0) (sym f ∙ g)) at turn
 
-    module _ (g : not (w .ok) ≡ false) {c : ℕ} (k : c ≡ getLE 2 (cut b i) 2) where
-      pub pass-other : (w .seen ≡ c → ⊥) → false ≡ treesN m N live 1 0 (rows t 8 (drop 32 b))
+    module _ (g : w ≡ 0 → ⊥) {c : ℕ} (k : c ≡ getLE 2 (cut b i) 2) where
+      good-walk : ((linkN m N (i + 1) 14 0 x 0 0) .ok ≡ true) × ((linkN m N (i + 1) 14 0 x 0 0) .seen ≡ w - 1)
+      good-walk = found-some (linkN m N (i + 1) 14 0 x 0 0) w f g
+
+      pub pass-other : (w - 1 ≡ c → ⊥) → false ≡ treesN m N live 1 0 (rows t 8 (drop 32 b))
       unfolding treesN rootOf countOf
-      pass-other n = simp (← e, ← f, not-false (w .ok) g, ← k, ne-eqb (w .seen) c n) at turn
+      pass-other n = simp (← e, good-walk .0, good-walk .1, ← k, ne-eqb (w - 1) c n) at turn
 
-      pub pass-on : w .seen ≡ c → c ≤ 65535 → Passed m N live t b (i + 1) (total + w .seen)
+      pub pass-on : w - 1 ≡ c → c ≤ 65535 → Passed m N live t b (i + 1) (total + (w - 1))
       unfolding treesN rootOf countOf
       pass-on n l =
           record {
             come = omega arith;
             most = omega (arith, s .most);
-            same = rw (add-one (i + 1)) (simp (← e, ← f, not-false (w .ok) g, ← k, eq-eqb (w .seen) c n) at turn);
+            same = rw (add-one (i + 1)) (simp (← e, good-walk .0, good-walk .1, ← k, eq-eqb (w - 1) c n) at turn);
           }

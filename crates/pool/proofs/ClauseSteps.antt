@@ -1,5 +1,5 @@
 -- The clauses of a header, an entry and a record, test by test in the order of the code. Assumes nothing.
-use mathlib.Core.Bool.{Bool, true, false, not, and-true}
+use mathlib.Core.Bool.{Bool, true, false, not, and-true, and-false}
 use mathlib.Core.List.{List, [], _∷_}
 use mathlib.Core.Path.{_≡_, refl, sym, ap, _∙_}
 use Prim.Native.Nat.{ℕ, _+_, _*_, _≤_, _<_}
@@ -7,13 +7,15 @@ use native.Mathlib.Omega.{arith}
 use lib.Dec.{eqb, leb, ltb}
 use lib.ListN.{length, drop, length-drop}
 use lib.Seq.{take-all}
-use borrow.Author.Tests.{not-true, not-false, eq-eqb, ne-eqb, le-leb, lt-leb, lt-ltb, le-ltb}
-use Rattle.fields.specs.Number.{getLE}
+use borrow.Author.Tests.{not-true, not-false, eqb-true, eqb-false, leb-true, eq-eqb, ne-eqb, le-leb, lt-leb, lt-ltb, le-ltb}
+use Rattle.fields.specs.Number.{value, getLE}
 use Rattle.fields.specs.Part.{part, zeros}
+use Rattle.fields.proofs.Numbers.{get-join, zeros-value}
 use Rattle.fields.proofs.Parts.{part-in}
 use Rattle.meaning.specs.Layout.{within, all}
 use Rattle.meaning.specs.Pool as pool
 use Rattle.meaning.specs.Sound.{headerOk, entryOk, liveOk, recordOk}
+use Rattle.meaning.proofs.Facts.{test, both, both-true}
 
 -- the test for zeros up to the end of a list
 zeros-rest : (b : List ℕ) (at count : ℕ) {z : Bool} → length b ≡ at + count → z ≡ zeros (part b at count) → z ≡ zeros (drop at b)
@@ -29,6 +31,11 @@ stop cs e = simp e
 pass : {c z : Bool} (cs : List Bool) → c ≡ true → z ≡ all cs → z ≡ all (c ∷ cs)
 unfolding all
 pass cs e f = simp e f
+
+lost : (c d : Bool) → false ≡ all (c ∷ d ∷ false ∷ [])
+unfolding all
+lost true d = sym (and-false d)
+lost false d = refl
 
 last : {c z : Bool} → z ≡ c → z ≡ all (c ∷ [])
 unfolding all
@@ -72,6 +79,33 @@ module _ (r : List ℕ) (T used next : ℕ) {b : ℕ} (e : b ≡ getLE 1 r 15) w
 
 -- ---- a live record
 
+-- eight bytes are a name's length exactly if the first two are and the other six are zero
+rest-zero : (r : List ℕ) → length r ≡ 32 → zeros (drop 26 r) ≡ eqb (getLE 6 r 26) 0
+unfolding getLE
+rest-zero r l = sym (zeros-rest r 26 6 l refl) ∙ zeros-value (part r 26 6)
+
+pub length-high : (n : ℕ) {p : Bool} → p ≡ within 1 255 n → not p ≡ false → n ≤ 255
+unfolding within
+length-high n v h = leb-true n 255 (both (leb 1 n) (leb n 255) (sym v ∙ not-false _ h) .1)
+
+wide-good : (a c : ℕ) → within 1 255 (a + 65536 * c) ≡ true → (c ≡ 0) × (within 1 255 a ≡ true)
+unfolding within
+wide-good a c h =
+    let n = a + 65536 * c in
+    let f = both (leb 1 n) (leb n 255) h in
+    let low = leb-true 1 n (f .0) in
+    let high = leb-true n 255 (f .1) in
+    (omega arith, both-true (leb 1 a) (leb a 255) (le-leb 1 a (omega arith)) (le-leb a 255 (omega arith)))
+
+wide-bad : (a c : ℕ) (u : Bool) → within 1 255 (a + 65536 * c) ≡ false → false ≡ all (within 1 255 a ∷ u ∷ eqb c 0 ∷ [])
+wide-bad a c u h =
+    test (eqb c 0) (λ t.
+    let n : a + 65536 * c ≡ a = omega (arith, eqb-true c 0 t) in
+    stop (u ∷ eqb c 0 ∷ []) (read (within 1 255) n h)) (λ t. none t)
+  where
+    none : eqb c 0 ≡ false → false ≡ all (within 1 255 a ∷ u ∷ eqb c 0 ∷ [])
+    none t = rw t (lost (within 1 255 a) u)
+
 module _ (r : List ℕ) (T used next : ℕ) where
   abbrev live-clauses : List Bool
   live-clauses =
@@ -107,25 +141,35 @@ module _ (r : List ℕ) (T used next : ℕ) where
           pub live-4 : next ≤ s → false ≡ liveOk T used next r
           live-4 h = live-past-3 (stop _ (read (λ k. ltb k next) e3 (le-ltb s next h)))
 
-          module _ (h4 : s < next) {n : ℕ} (e4 : n ≡ getLE 2 r 24) {p : Bool} (v : p ≡ within 1 255 n) where
+          module _ (h4 : s < next) (l : length r ≡ 32) {n : ℕ} (e4 : n ≡ getLE 8 r 24) {p : Bool} (v : p ≡ within 1 255 n) where
             live-past-4 : {z : Bool} → z ≡ all (drop 4 live-clauses) → z ≡ liveOk T used next r
             live-past-4 z = live-past-3 (pass _ (read (λ k. ltb k next) e3 (lt-ltb s next h4)) z)
 
+            wide : n ≡ getLE 2 r 24 + 65536 * getLE 6 r 26
+            wide = e4 ∙ get-join 2 6 r 24 (omega arith)
+
             pub live-5 : not p ≡ true → false ≡ liveOk T used next r
-            live-5 h = live-past-4 (stop _ (read (within 1 255) e4 (sym v ∙ not-true p h)))
+            live-5 h =
+                live-past-4 (rw (rest-zero r l) (wide-bad (getLE 2 r 24) (getLE 6 r 26) (leb (getLE 4 r 20 + getLE 2 r 24) used)
+                (read (within 1 255) wide (sym v ∙ not-true p h))))
 
             module _ (h5 : not p ≡ false) {a : ℕ} (e5 : a ≡ getLE 4 r 20) where
+              fit : (getLE 6 r 26 ≡ 0) × (within 1 255 (getLE 2 r 24) ≡ true)
+              fit = wide-good (getLE 2 r 24) (getLE 6 r 26) (read (within 1 255) wide (sym v ∙ not-false p h5))
+
               live-past-5 : {z : Bool} → z ≡ all (drop 5 live-clauses) → z ≡ liveOk T used next r
-              live-past-5 z = live-past-4 (pass _ (read (within 1 255) e4 (sym v ∙ not-false p h5)) z)
+              live-past-5 z = live-past-4 (pass _ (fit .1) z)
 
               name-end : {c : Bool} → leb (a + n) used ≡ c → leb (getLE 4 r 20 + getLE 2 r 24) used ≡ c
-              name-end h = read (λ k. leb (k + getLE 2 r 24) used) e5 (read (λ k. leb (a + k) used) e4 h)
+              name-end h =
+                  let len : n ≡ getLE 2 r 24 = omega (arith, wide, fit .0) in
+                  read (λ k. leb (k + getLE 2 r 24) used) e5 (read (λ k. leb (a + k) used) len h)
 
               pub live-6 : used < a + n → false ≡ liveOk T used next r
               live-6 h = live-past-5 (stop _ (name-end (lt-leb (a + n) used h)))
 
-              pub live-7 : a + n ≤ used → length r ≡ 32 → {z : Bool} → z ≡ zeros (part r 26 6) → z ≡ liveOk T used next r
-              live-7 h l z = live-past-5 (pass _ (name-end (le-leb (a + n) used h)) (last (zeros-rest r 26 6 l z)))
+              pub live-7 : a + n ≤ used → true ≡ liveOk T used next r
+              live-7 h = live-past-5 (pass _ (name-end (le-leb (a + n) used h)) (last (sym (rest-zero r l ∙ eq-eqb (getLE 6 r 26) 0 (fit .0)))))
 
 -- ---- the header
 

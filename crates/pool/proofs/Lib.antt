@@ -5,6 +5,8 @@ pub mod OnePass
 pub mod Sections
 pub mod Decided
 pub mod Naming
+pub mod Bounds
+pub mod SameWalk
 pub mod WalkSteps
 pub mod CheckSteps
 pub mod ClauseSteps

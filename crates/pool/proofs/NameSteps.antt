@@ -15,7 +15,7 @@ use Rattle.meaning.specs.Sound.{sound}
 use Rattle.meaning.specs.Doors.{name}
 use Rattle.meaning.proofs.Facts.{both, rows-at}
 use Rattle.meaning.proofs.Clauses.{within-is, clauses}
-use Rattle.meaning.proofs.Sections.{get-part}
+use Rattle.fields.proofs.Spans.{get-part}
 use Rattle.pool.specs.Name.{matches, handleOk, noPlace, placeOf}
 use Rattle.pool.specs.declared.name.Place.{Place}
 use Rattle.pool.proofs.Naming.{place-is, place-fits, place-low, name-at}

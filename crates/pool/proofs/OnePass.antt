@@ -19,8 +19,7 @@ use Rattle.meaning.proofs.Clauses.{RowFacts, row-facts, TreeFacts, tree-facts, 
 use Rattle.meaning.proofs.Hanging.{Member, top-read, hangs, members}
 use Rattle.meaning.proofs.Members.{once-short, height-size}
 use Rattle.meaning.proofs.Stored.{hangs-read, hangs-linked}
-use Rattle.pool.specs.declared.walk.Walk.{Walk}
-use Rattle.pool.specs.Check.{linkN, treesN}
+use Rattle.pool.specs.Check.{Walk, linkN, treesN}
 use Rattle.pool.proofs.Rising.{risingFrom, rising-zero}
 use Rattle.pool.proofs.Passing.{Agree, keys, walked, Passed, passed, passes}
 use Rattle.pool.proofs.Counting.{at-most-once, countIn, walk-short, walk-reached, walk-counted, countFrom, count-live}

@@ -15,8 +15,7 @@ use Rattle.meaning.specs.Layout.{at}
 use Rattle.meaning.specs.Pool.{keyIn, leftIn, rightIn, parentIn, balanceIn, treeIn, decode}
 use Rattle.meaning.proofs.Facts.{both, both-true}
 use Rattle.meaning.proofs.Hanging.{Member, Hangs}
-use Rattle.pool.specs.declared.walk.Walk.{Walk}
-use Rattle.pool.specs.Check.{bad, good, treeN, evenly, joined, linkN}
+use Rattle.pool.specs.Check.{Walk, bad, good, treeN, evenly, joined, linkN}
 use Rattle.pool.proofs.Rising.{risingFrom, lastOf, last-append, rising-parts, parts-rising}
 
 -- the bytes m hold the fields of the rows
@@ -30,23 +29,23 @@ pub record Agree (m : List ℕ) (rs : List (List ℕ)) : Type 0 where
 
 -- ---- tests
 
-cond-good : (c : Bool) (f : Walk) → (cond c f bad) .ok ≡ true → (c ≡ true) × (cond c f bad ≡ f) × (f .ok ≡ true)
+pub cond-good : (c : Bool) (f : Walk) → (cond c f bad) .ok ≡ true → (c ≡ true) × (cond c f bad ≡ f) × (f .ok ≡ true)
 cond-good true f h = (refl, refl, h)
 cond-good false f h = absurd (false≢true h)
 
-cond-yes : (c : Bool) (f : Walk) → c ≡ true → cond c f bad ≡ f
+pub cond-yes : (c : Bool) (f : Walk) → c ≡ true → cond c f bad ≡ f
 cond-yes true f h = refl
 cond-yes false f h = absurd (false≢true h)
 
-either : {P : Type 0} (a b : Bool) → (a || b) ≡ true → (a ≡ true → P) → (b ≡ true → P) → P
+pub either : {P : Type 0} (a b : Bool) → (a || b) ≡ true → (a ≡ true → P) → (b ≡ true → P) → P
 either true b h f g = f refl
 either false b h f g = g h
 
-or-first : (a b : Bool) → a ≡ true → (a || b) ≡ true
+pub or-first : (a b : Bool) → a ≡ true → (a || b) ≡ true
 or-first true b h = refl
 or-first false b h = absurd (false≢true h)
 
-or-second : (a b : Bool) → b ≡ true → (a || b) ≡ true
+pub or-second : (a b : Bool) → b ≡ true → (a || b) ≡ true
 or-second true b h = refl
 or-second false b h = h
 

@@ -16,7 +16,8 @@ use Rattle.meaning.specs.Change.{freeFrom}
 use Rattle.meaning.specs.Sound.{recordOk}
 use Rattle.meaning.proofs.Facts.{test, length-rows}
 use Rattle.meaning.proofs.Contents.{read-free, read-live}
-use Rattle.meaning.proofs.Sections.{get-part, row-field}
+use Rattle.fields.proofs.Spans.{get-part}
+use Rattle.meaning.proofs.Sections.{row-field}
 use Rattle.pool.specs.Check.{treeN}
 use Rattle.pool.specs.Rows.{counted}
 use Rattle.pool.proofs.Passing.{Agree}

@@ -10,7 +10,7 @@ ghost use Rattle.pool.specs.Rows.{judged};
 use super::rows::entries_ok;
 use super::rows::header_ok;
 use super::rows::records_ok;
-use super::walk::check_link;
+use super::walk::check_tree;
 
 // Whether all is good, and then how many records are live and the lowest free slot, 0 for none.
 pub struct Judged {
@@ -30,21 +30,21 @@ impl Judged {
 // The trees, each in one pass: every walk is good and as long as its count says, and together they
 // have all live records.
 fn trees_ok(pool: &[u8], nodes: &[u8], n: u16, t: u16, live: u16) -> bool
-    requires { ⌜ (32 + 8 * t ≤ length (now pool)) × (t ≤ 8) ⌝ }
+    requires { ⌜ (32 + 8 * t ≤ length (now pool)) × (t ≤ 8) × (32 * n ≤ length (now nodes)) ⌝ }
     ensures { λ r. ⌜ r ≡ treesN (now (nodes .entry)) n live 1 0 (rows t 8 (drop 32 (now (pool .entry)))) ⌝ }
 {
     let mut i: usize = 0;
     let mut total: u32 = 0;
     while i < t as usize {
         let e = &pool[32 + 8 * i..40 + 8 * i];
-        let w = check_link(nodes, n, (i + 1) as u8, 14, 0, fields::get_u16(e, 0), 0, 0);
-        if !w.ok {
+        let w = check_tree(nodes, n, (i + 1) as u8, fields::get_u16(e, 0));
+        if w == 0 {
             return false;
         }
-        if w.seen != fields::get_u16(e, 2) {
+        if w - 1 != fields::get_u16(e, 2) as u32 {
             return false;
         }
-        total += w.seen as u32;
+        total += w - 1;
         i += 1;
     }
     total == live as u32

@@ -10,7 +10,7 @@
 //
 // check and name rest on judge (check.rt), which also tells how many records of a sound pool are live
 // and its lowest free slot. rows.rt has the clauses of header, entry and record, walk.rt the pass over
-// a tree's links. Stack only: the deepest call is check_link and check_record, 14 levels of each.
+// a tree's links. Stack only: the deepest call is check_below and check_left or check_right, 14 levels.
 pub mod check;
 pub mod create;
 pub mod name;

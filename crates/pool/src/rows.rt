@@ -90,14 +90,15 @@ fn live_ok(r: &[u8], t: u16, used: u32, next: u32) -> bool
     if next <= stamp {
         return false;
     }
-    let len = fields::get_u16(r, 24) as u64;
+    // The length and the six bytes behind it, which are zero exactly if all eight are a length.
+    let len = fields::get_u64(r, 24);
     if !between(1, 255, len as usize) {
         return false;
     }
     if (used as u64) < fields::get_u32(r, 20) as u64 + len {
         return false;
     }
-    fields::all_zero(r, 26, 6)
+    true
 }
 
 // A record: live, or 32 zero bytes.

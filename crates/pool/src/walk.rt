@@ -1,69 +1,27 @@
-// The check of one tree: check_link and check_record call each other, and the level falls at each
-// call. One pass: links, parents, order over the whole walk, balances from heights, and the count.
+// The check of one tree: check_below tests a record, check_left and check_right the links to its
+// parts, whose keys lie within the bounds that the records above leave. The level falls with each
+// record.
+//
+// One number tells of a part: 0 that it is bad, else its height plus 256 times one more than the
+// number of its records. So 256 is no record, and a record counts what its two parts do together.
 ghost use mathlib.Core.Path.{_≡_};
-ghost use mathlib.Core.Bool.{_||_};
-ghost use Prim.Native.Nat.{max};
-ghost use lib.Dec.{eqb, ltb};
-ghost use Rattle.pool.specs.Check.{treeN, evenly, joined, linkN, recordN};
-use tree::dir::Dir;
-use tree::node::get_balance;
-use tree::node::get_child;
-use tree::node::get_key;
-use tree::node::get_parent;
+ghost use Prim.Native.Nat.{_+_, _*_, _/_, _%_, _≤_, max};
+ghost use lib.ListN.{length};
+ghost use Rattle.pool.specs.Check.{evenly, linkN, weighed, ownIn, boundN, found};
 
-// What was found below a link: whether it is good, its height, and of the whole walk so far the number
-// of records and the last key.
-pub struct Walk {
-    pub ok: bool,
-    pub high: u8,
-    pub seen: u16,
-    pub last: u64,
-}
-
-fn bad() -> Walk
-    ensures { λ r. ⌜ r ≡ Rattle.pool.specs.Check.bad ⌝ }
-{
-    Walk {
-        ok: false,
-        high: 0,
-        seen: 0,
-        last: 0,
-    }
-}
-
-// The tree that the record of slot s says it is in; 0 is free.
-pub fn get_tree(nodes: &[u8], s: u16) -> u8
-    ensures { λ r. ⌜ r ≡ treeN (now (nodes .entry)) s ⌝ }
-{
-    if s == 0 {
-        return 0;
-    }
-    fields::get_u8(nodes, 32 * (s as usize - 1) + 15)
-}
-
-// Whether the balance b fits the heights l and r.
-fn is_even(b: u8, l: u8, r: u8) -> bool
+// Whether the balance b fits the heights l and r: 0 says equal, 1 that the right is one higher, 2
+// that the left is.
+fn is_even(b: u8, l: u32, r: u32) -> bool
+    requires { ⌜ (l ≤ 14) × (r ≤ 14) ⌝ }
     ensures { λ o. ⌜ o ≡ evenly b l r ⌝ }
 {
-    if 14 < l {
+    if 2 < b {
         return false;
     }
-    if 14 < r {
-        return false;
-    }
-    if b == 0 {
-        return l == r;
-    }
-    if b == 1 {
-        return l + 1 == r;
-    }
-    if b == 2 {
-        return l == r + 1;
-    }
-    false
+    l + b as u32 % 2 == r + b as u32 / 2
 }
 
-fn higher(l: u8, r: u8) -> u8
+fn higher(l: u32, r: u32) -> u32
     ensures { λ o. ⌜ o ≡ max l r ⌝ }
 {
     if l < r {
@@ -72,86 +30,104 @@ fn higher(l: u8, r: u8) -> u8
     l
 }
 
-fn join(b: u8, l: Walk, r: Walk) -> Walk
-    ensures { λ o. ⌜ o ≡ joined b l r ⌝ }
+// A record of balance b from its parts, neither of which is bad.
+fn weigh(b: u8, l: u32, r: u32) -> u32
+    requires { ⌜ (1 ≤ l) × (1 ≤ r) × (l % 256 ≤ 14) × (r % 256 ≤ 14) × (l / 256 ≤ 16384) × (r / 256 ≤ 16384) ⌝ }
+    ensures { λ o. ⌜ o ≡ weighed b l r ⌝ }
 {
-    if !r.ok {
-        return bad();
+    let lh = l % 256;
+    let rh = r % 256;
+    if !is_even(b, lh, rh) {
+        return 0;
     }
-    if !is_even(b, l.high, r.high) {
-        return bad();
-    }
-    Walk {
-        ok: true,
-        high: higher(l.high, r.high) + 1,
-        seen: r.seen,
-        last: r.last,
-    }
+    256 * (l / 256 + r / 256) + (higher(lh, rh) + 1)
 }
 
-// Whether the key k goes on after `seen` records, the last of which has the key `last`.
-fn is_after(k: u64, seen: u16, last: u64) -> bool
-    ensures { λ o. ⌜ o ≡ (eqb seen 0 || ltb last k) ⌝ }
+// Whether a record is of tree t, with the parent u and a key from lo to hi.
+fn is_own(row: &[u8], t: u8, u: u16, lo: u64, hi: u64) -> bool
+    ensures { λ o. ⌜ o ≡ ownIn (now (row .entry)) t u lo hi ⌝ }
 {
-    if seen == 0 {
-        return true;
+    if fields::get_u8(row, 15) != t {
+        return false;
     }
-    last < k
+    if fields::get_u16(row, 12) != u {
+        return false;
+    }
+    let k = fields::get_u64(row, 0);
+    if k < lo {
+        return false;
+    }
+    k <= hi
 }
 
-// The link to x from u in tree t, after `seen` records, the last of which has the key `last`.
-pub fn check_link(
-    nodes: &[u8],
-    n: u16,
-    t: u8,
-    level: u8,
-    u: u16,
-    x: u16,
-    seen: u16,
-    last: u64,
-) -> Walk
-    ensures { λ r. ⌜ r ≡ linkN (now (nodes .entry)) n t level u x seen last ⌝ }
+// The record x, to which a link from u leads, with keys from lo to hi.
+fn check_below(nodes: &[u8], n: u16, t: u8, level: u8, u: u16, x: u16, lo: u64, hi: u64) -> u32
+    requires { ⌜ (1 ≤ x) × (32 * n ≤ length (now nodes)) × (level ≤ 14) ⌝ }
+    ensures { λ r. ⌜ r ≡ boundN (now (nodes .entry)) n t level u x lo (hi + 1) ⌝ }
 {
-    if x == 0 {
-        return Walk {
-            ok: true,
-            high: 0,
-            seen,
-            last,
-        };
-    }
     if level == 0 {
-        return bad();
+        return 0;
     }
     if n < x {
-        return bad();
+        return 0;
     }
-    if get_tree(nodes, x) != t {
-        return bad();
+    let end = 32 * x as usize;
+    let start = end - 32;
+    let row = &nodes[start..end];
+    if !is_own(row, t, u, lo, hi) {
+        return 0;
     }
-    if get_parent(nodes, x) != u {
-        return bad();
+    let k = fields::get_u64(row, 0);
+    let l = check_left(nodes, n, t, level - 1, x, fields::get_u16(row, 8), lo, k);
+    if l == 0 {
+        return 0;
     }
-    check_record(nodes, n, t, level - 1, x, seen, last)
+    let r = check_right(nodes, n, t, level - 1, x, fields::get_u16(row, 10), k, hi);
+    if r == 0 {
+        return 0;
+    }
+    weigh(fields::get_u8(row, 14), l, r)
 }
 
-// The record x, whose own fields fit.
-fn check_record(nodes: &[u8], n: u16, t: u8, level: u8, x: u16, seen: u16, last: u64) -> Walk
-    ensures { λ r. ⌜ r ≡ recordN (now (nodes .entry)) n t level x seen last ⌝ }
+// The link from u to x on its left, with keys from lo on and below k.
+fn check_left(nodes: &[u8], n: u16, t: u8, level: u8, u: u16, x: u16, lo: u64, k: u64) -> u32
+    requires { ⌜ (32 * n ≤ length (now nodes)) × (level ≤ 14) ⌝ }
+    ensures { λ r. ⌜ r ≡ boundN (now (nodes .entry)) n t level u x lo k ⌝ }
 {
-    let a = get_child(nodes, x, Dir::LEFT);
-    let l = check_link(nodes, n, t, level, x, a, seen, last);
-    if !l.ok {
-        return bad();
+    if x == 0 {
+        return 256;
     }
-    if n <= l.seen {
-        return bad();
+    if k <= lo {
+        return 0;
     }
-    let k = get_key(nodes, x);
-    if !is_after(k, l.seen, l.last) {
-        return bad();
+    check_below(nodes, n, t, level, u, x, lo, k - 1)
+}
+
+// The link from u to x on its right, with keys above k and up to hi.
+fn check_right(nodes: &[u8], n: u16, t: u8, level: u8, u: u16, x: u16, k: u64, hi: u64) -> u32
+    requires { ⌜ (32 * n ≤ length (now nodes)) × (level ≤ 14) ⌝ }
+    ensures { λ r. ⌜ r ≡ boundN (now (nodes .entry)) n t level u x (k + 1) (hi + 1) ⌝ }
+{
+    if x == 0 {
+        return 256;
     }
-    let c = get_child(nodes, x, Dir::RIGHT);
-    let r = check_link(nodes, n, t, level, x, c, l.seen + 1, k);
-    join(get_balance(nodes, x), l, r)
+    if hi <= k {
+        return 0;
+    }
+    check_below(nodes, n, t, level, u, x, k + 1, hi)
+}
+
+// Tree t: 0 if it is bad, else one more than the number of its records.
+pub fn check_tree(nodes: &[u8], n: u16, t: u8, root: u16) -> u32
+    requires { ⌜ 32 * n ≤ length (now nodes) ⌝ }
+    ensures { λ r. ⌜ r ≡ found (linkN (now (nodes .entry)) n t 14 0 root 0 0) ⌝ }
+{
+    if root == 0 {
+        return 1;
+    }
+    let w = check_below(nodes, n, t, 14, 0, root, 0, 18_446_744_073_709_551_615) / 256;
+    if n as u32 + 1 < w {
+        return 0;
+    }
+    w
 }

@@ -1,5 +1,5 @@
 // What changes a pool: a record into a slot and its tree and out of both, a new record with its name,
-// reset, and the text cut back.
+// reset, and the text cut back. The steps on the body and on single numbers are public too.
 ghost use mathlib.Core.Path.{_≡_};
 ghost use Prim.Native.Nat.{_+_, _*_};
 ghost use Rattle.fields.specs.Part.{part, splice};
@@ -22,17 +22,17 @@ use tree::remove::remove;
 // ---- a record in
 
 // The lowest free slot once slot x is taken.
-fn free_after(body: &[u8], h: Head, x: u16) -> u16
-    ensures { λ r. ⌜ r ≡ freeAfterN (now (body .entry)) (h .slots) (h .free) x ⌝ }
+pub fn free_after(body: &[u8], slots: u16, free: u16, x: u16) -> u16
+    ensures { λ r. ⌜ r ≡ freeAfterN (now (body .entry)) slots free x ⌝ }
 {
-    if x == h.free {
-        return lowest(body, x, h.slots);
+    if x == free {
+        return lowest(body, x, slots);
     }
-    h.free
+    free
 }
 
 // The record v in slot x, hung below p on side d of the tree t.
-fn hang_in(body: &mut [u8], t: AvlTree, x: u16, v: Record, p: u16, d: Dir) -> AvlTree
+pub fn hang_in(body: &mut [u8], t: AvlTree, x: u16, v: Record, p: u16, d: Dir) -> AvlTree
     ensures { λ r. ⌜ (now (body .exit), r) ≡ hungN (now (body .entry)) t x v p (way (d .0)) ⌝ }
 {
     fill(body, x, v);
@@ -44,7 +44,7 @@ pub fn put_rec(body: &mut [u8], h: Head, x: u16, v: Record, p: u16, d: Dir) -> H
     ensures { λ r. ⌜ (now (body .exit), r) ≡ putRecN (now (body .entry)) h x v p (way (d .0)) ⌝ }
 {
     let t = hang_in(body, h.tree(v.tree), x, v, p, d);
-    let free = free_after(body, h, x);
+    let free = free_after(body, h.slots, h.free, x);
     let ts = h.table;
     let us = set_tree(ts, v.tree, t);
     Head {
@@ -62,7 +62,7 @@ pub fn put_rec(body: &mut [u8], h: Head, x: u16, v: Record, p: u16, d: Dir) -> H
 // ---- a record out
 
 // The lowest free slot once slot x is free too.
-fn freed(free: u16, x: u16) -> u16
+pub fn freed(free: u16, x: u16) -> u16
     ensures { λ r. ⌜ r ≡ freedN free x ⌝ }
 {
     if free == 0 {
@@ -74,7 +74,8 @@ fn freed(free: u16, x: u16) -> u16
     free
 }
 
-fn take(body: &mut [u8], t: AvlTree, x: u16) -> AvlTree
+// Slot x out of the tree t, and its bytes zeroed.
+pub fn take(body: &mut [u8], t: AvlTree, x: u16) -> AvlTree
     ensures { λ r. ⌜ (now (body .exit), r) ≡ takenN (now (body .entry)) t x ⌝ }
 {
     let u = remove(body, t, x);
@@ -104,7 +105,7 @@ pub fn drop_rec(body: &mut [u8], h: Head, x: u16, t: u8) -> Head
 // ---- a new record with its name
 
 // Text used after a name of len bytes more; sums that would wrap stay.
-fn plus(used: u32, len: u16) -> u32
+pub fn plus(used: u32, len: u16) -> u32
     ensures { λ r. ⌜ r ≡ plusN used len ⌝ }
 {
     if 4_294_901_760 <= used {
@@ -114,7 +115,7 @@ fn plus(used: u32, len: u16) -> u32
 }
 
 // The stamp after this one; the last one stays.
-fn rise(next: u32) -> u32
+pub fn rise(next: u32) -> u32
     ensures { λ r. ⌜ r ≡ riseN next ⌝ }
 {
     if next == 4_294_967_295 {
@@ -141,7 +142,7 @@ fn grown(h: Head, len: u16) -> Head
 }
 
 // Copies the len bytes of the names from `from` on into the body, if they lie within the names.
-fn append_name(body: &mut [u8], at: usize, names: &[u8], from: usize, len: usize)
+pub fn append_name(body: &mut [u8], at: usize, names: &[u8], from: usize, len: usize)
     ensures { λ _. ⌜ now (body .exit) ≡ splice (now (body .entry)) at (part (now (names .entry)) from len) ⌝ }
 {
     if !fields::within(names, from, len) {

@@ -1,6 +1,6 @@
 // A record's own fields in the body: what it holds besides its links.
 ghost use mathlib.Core.Path.{_≡_};
-ghost use Prim.Native.Nat.{_-_};
+ghost use Prim.Native.Nat.{_-_, _<_};
 ghost use Rattle.slots.specs.Record.{noRecord, recordN, fillN, clearN, lowestN};
 
 pub struct Record {
@@ -24,13 +24,11 @@ pub fn nothing() -> Record
     }
 }
 
-// The record of slot x; slot 0 has none.
-pub fn record_at(body: &[u8], x: u16) -> Record
+// The record of slot x, read field by field: for a slot that the body may have in part only.
+fn part_record(body: &[u8], x: u16) -> Record
+    requires { ⌜ 0 < x ⌝ }
     ensures { λ r. ⌜ r ≡ recordN (now (body .entry)) x ⌝ }
 {
-    if x == 0 {
-        return nothing();
-    }
     let at = 32 * (x as usize - 1);
     Record {
         key: fields::get_u64(body, at),
@@ -41,6 +39,42 @@ pub fn record_at(body: &[u8], x: u16) -> Record
     }
 }
 
+// The record of slot x; slot 0 has none. One test for the whole slot spares one for each field.
+pub fn record_at(body: &[u8], x: u16) -> Record
+    ensures { λ r. ⌜ r ≡ recordN (now (body .entry)) x ⌝ }
+{
+    if x == 0 {
+        return nothing();
+    }
+    let end = 32 * (x as usize);
+    if body.len() < end {
+        return part_record(body, x);
+    }
+    let at = end - 32;
+    let slot = &body[at..end];
+    Record {
+        key: fields::get_u64(slot, 0),
+        stamp: fields::get_u32(slot, 16),
+        start: fields::get_u32(slot, 20),
+        len: fields::get_u16(slot, 24),
+        tree: fields::get_u8(slot, 15),
+    }
+}
+
+// Writes a record's own fields into slot x, field by field: for a slot that the body may have in part
+// only.
+fn part_fill(body: &mut [u8], x: u16, v: Record)
+    requires { ⌜ 0 < x ⌝ }
+    ensures { λ _. ⌜ now (body .exit) ≡ fillN (now (body .entry)) x v ⌝ }
+{
+    let at = 32 * (x as usize - 1);
+    fields::put_u64(body, at, v.key);
+    fields::put_u8(body, at + 15, v.tree);
+    fields::put_u32(body, at + 16, v.stamp);
+    fields::put_u32(body, at + 20, v.start);
+    fields::put_u16(body, at + 24, v.len);
+}
+
 // Writes a record's own fields into slot x. Its links are left.
 pub fn fill(body: &mut [u8], x: u16, v: Record)
     ensures { λ _. ⌜ now (body .exit) ≡ fillN (now (body .entry)) x v ⌝ }
@@ -48,12 +82,18 @@ pub fn fill(body: &mut [u8], x: u16, v: Record)
     if x == 0 {
         return;
     }
-    let at = 32 * (x as usize - 1);
-    fields::put_u64(body, at, v.key);
-    fields::put_u8(body, at + 15, v.tree);
-    fields::put_u32(body, at + 16, v.stamp);
-    fields::put_u32(body, at + 20, v.start);
-    fields::put_u16(body, at + 24, v.len);
+    let end = 32 * (x as usize);
+    if body.len() < end {
+        part_fill(body, x, v);
+        return;
+    }
+    let at = end - 32;
+    let slot = &mut body[at..end];
+    fields::put_u64(slot, 0, v.key);
+    fields::put_u8(slot, 15, v.tree);
+    fields::put_u32(slot, 16, v.stamp);
+    fields::put_u32(slot, 20, v.start);
+    fields::put_u16(slot, 24, v.len);
 }
 
 // Zeroes the 32 bytes of slot x.

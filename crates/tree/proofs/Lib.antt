@@ -1,5 +1,6 @@
 pub mod Leaf
 pub mod Loops
+pub mod NodeSteps
 pub mod RotateSteps
 pub mod ClimbSteps
 pub mod RemoveSteps

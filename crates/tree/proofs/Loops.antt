@@ -10,11 +10,12 @@ use lib.ListN.{length}
 use borrow.Author.Tests.{eq-eqb, ne-eqb, eqb-true, leb-true, leb-false, lt-ltb, le-ltb}
 use Rattle.avl.specs.Tree.{Dir, left, right, alike}
 use Rattle.avl.specs.Search.{three}
-use Rattle.tree.specs.Node.{way, child, parent, getN, keyN, sideN}
+use Rattle.tree.specs.Node.{way, child, parent, getN, nodeN, sideN}
 use Rattle.tree.specs.Walk.{bottomN, upN}
 use Rattle.tree.specs.Search.{Ending, seekN}
 use Rattle.tree.specs.Rotate.{Store}
 use Rattle.tree.specs.declared.node.AvlTree.{AvlTree}
+use Rattle.tree.specs.declared.node.Node.{Node}
 
 above-0 : (k : ℕ) → (k ≡ 0 → ⊥) → k ≡ suc (k - 1)
 above-0 k n = omega arith
@@ -92,10 +93,6 @@ three-ne {A} m k a b c z = go (compare m k) refl
     go Ordering·eq e = absurd (z (eqb-true m k (ap isEq e)))
     go Ordering·gt e = let h : k < m = leb-false m k (ap isLe e) in simp (le-ltb m k (omega arith))
 
-by-way : {A : Type 0} (b : Bool) (f : Dir → A) → cond b (f right) (f left) ≡ f (way b)
-by-way true f = refl
-by-way false f = refl
-
 -- what is left of a search ends at z, in at most 14 comparisons
 pub record Seeking (m : List ℕ) (key : ℕ) (z : Ending) (x p : ℕ) (e : Dir) (n : ℕ) : Type 0 where
   pub same : seekN (14 - n) m key x p e n ≡ z
@@ -114,24 +111,31 @@ module _ {m : List ℕ} {key : ℕ} {z : Ending} {x p : ℕ} {e : Dir} {n : ℕ}
     unfolding seekN
     seek-none h = simp (eq-eqb x 0 h) at turn
 
-    module _ (h : x ≡ 0 → ⊥) {y : ℕ} (f : y ≡ keyN m x) where
+    module _ (h : x ≡ 0 → ⊥) {y : Node} (f : y ≡ nodeN m x) where
       here : Ending
       here = record { slot = x; above = p; side = e; compared = suc n }
 
       below : Dir → Ending
       below d = seekN (14 - suc n) m key (getN m x (child d)) x d (suc n)
 
-      compared : three (compare key y) (below left) here (below right) ≡ z
-      unfolding seekN here below
-      compared = rw f (simp (ne-eqb x 0 h) at turn)
+      compared : three (compare key (y .key)) (below left) here (below right) ≡ z
+      unfolding seekN nodeN here below
+      compared = rw (ap (λ (u : Node). u .key) f) (simp (ne-eqb x 0 h) at turn)
 
-      pub seek-here : key ≡ y → record { slot = x; above = p; side = e; compared = n + 1 } ≡ z
+      pub seek-here : key ≡ y .key → record { slot = x; above = p; side = e; compared = n + 1 } ≡ z
       unfolding here
-      seek-here g = rw add-one (sym (three-eq (compare key y) (below left) here (below right) (eq-eqb key y g)) ∙ compared)
+      seek-here g = rw add-one (sym (three-eq (compare key (y .key)) (below left) here (below right) (eq-eqb key (y .key) g)) ∙ compared)
 
-      pub seek-on : (key ≡ y → ⊥) → {c : ℕ} → c ≡ getN m x (child (way (not (ltb key y))))
-          → Seeking m key z c x (way (not (ltb key y))) (n + 1)
-      unfolding below
-      seek-on g i =
-          let on = sym (three-ne key y (below left) here (below right) g ∙ by-way (not (ltb key y)) below) ∙ compared in
-          record { same = rw (add-one, i) on; most = omega (arith, s .most) }
+      module _ (g : key ≡ y .key → ⊥) where
+        chosen : cond (not (ltb key (y .key))) (below right) (below left) ≡ z
+        chosen = sym (three-ne key (y .key) (below left) here (below right) g) ∙ compared
+
+        pub seek-right : not (ltb key (y .key)) ≡ true → {c : ℕ} → c ≡ y .right → Seeking m key z c x (way (not (ltb key (y .key)))) (n + 1)
+        unfolding below nodeN
+        seek-right t i =
+            record { same = rw (add-one, t, i, ap (λ (u : Node). u .right) f) (rw t at chosen); most = omega (arith, s .most) }
+
+        pub seek-left : not (ltb key (y .key)) ≡ false → {c : ℕ} → c ≡ y .left → Seeking m key z c x (way (not (ltb key (y .key)))) (n + 1)
+        unfolding below nodeN
+        seek-left t i =
+            record { same = rw (add-one, t, i, ap (λ (u : Node). u .left) f) (rw t at chosen); most = omega (arith, s .most) }

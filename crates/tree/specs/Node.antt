@@ -6,6 +6,7 @@ use Prim.Native.Nat.{ℕ, _+_, _*_, _-_}
 use lib.Dec.{eqb}
 use Rattle.fields.specs.Number.{getLE, putLE}
 use Rattle.avl.specs.Tree.{Dir, left, right, pick}
+use Rattle.tree.specs.declared.node.Node.{Node}
 
 -- the side that the code's `Dir` stands for: false is left
 abbrev pub way : Bool → Dir
@@ -36,6 +37,10 @@ putN m s f v = cond (eqb s 0) m (putLE (width f) m (32 * (s - 1) + offset f) v)
 
 unfoldable pub keyN : List ℕ → ℕ → ℕ
 keyN m s = cond (eqb s 0) 0 (getLE 8 m (32 * (s - 1)))
+
+-- what a search reads of a record
+unfoldable pub nodeN : List ℕ → ℕ → Node
+nodeN m s = record { key = keyN m s; left = getN m s (child left); right = getN m s (child right) }
 
 -- set_child2: the child's parent, then the child
 unfoldable pub putBoth : List ℕ → ℕ → Dir → ℕ → List ℕ

@@ -26,7 +26,8 @@
 // | AvlTree { root, count }             | node::AvlTree                | by value, count in two bytes                      |
 // | bottom_child, _walk_dir             | walk::bottom_child, walk_dir | the height limits the loops                       |
 // | first, last                         | walk::first, last            | a slot, 0 for none                                |
-// | get, entry                          | search::get, entry           | keys are u64; the keys compared are counted       |
+// | get, entry                          | search::get, entry           | keys are u64; the keys compared are counted; a    |
+// |                                     |                              | record is read at once, by `node::node_at`        |
 // | add, remove_by_key                  | search::entry, then insert   | the batch's tests stand between the two           |
 // |                                     | or remove                    |                                                   |
 // | next, prev                          | walk::walk_dir               | to the right, to the left                         |

@@ -4,13 +4,20 @@ ghost use mathlib.Core.Bool.{cond};
 ghost use Prim.Native.Nat.{_+_, _*_, _-_};
 ghost use lib.Dec.{eqb};
 ghost use Rattle.fields.specs.Number.{getLE, putLE};
-ghost use Rattle.tree.specs.Node.{way, child, parent, balance, getN, putN, keyN, putBoth, sideN, detachN};
+ghost use Rattle.tree.specs.Node.{way, child, parent, balance, getN, putN, keyN, nodeN, putBoth, sideN, detachN};
 use super::dir::Dir;
 
 // A tree: its topmost record, 0 for none, and how many records it has.
 pub struct AvlTree {
     pub root: u16,
     pub count: u16,
+}
+
+// What a search reads of a record: its key and its two children.
+pub struct Node {
+    pub key: u64,
+    pub left: u16,
+    pub right: u16,
 }
 
 fn get_link(nodes: &[u8], s: u16, field: u8) -> u16
@@ -81,6 +88,37 @@ pub fn get_key(nodes: &[u8], s: u16) -> u64
         return 0;
     }
     fields::get_u64(nodes, 32 * (s as usize - 1))
+}
+
+// The slow form, for slot 0 and for a record that does not lie wholly within the slice.
+fn part_node(nodes: &[u8], s: u16) -> Node
+    ensures { λ r. ⌜ r ≡ nodeN (now (nodes .entry)) s ⌝ }
+{
+    Node {
+        key: get_key(nodes, s),
+        left: get_child(nodes, s, Dir::LEFT),
+        right: get_child(nodes, s, Dir::RIGHT),
+    }
+}
+
+// One test for the whole record: the loads then need none, and none of them waits for another.
+pub fn node_at(nodes: &[u8], s: u16) -> Node
+    ensures { λ r. ⌜ r ≡ nodeN (now (nodes .entry)) s ⌝ }
+{
+    let end = 32 * (s as usize);
+    if nodes.len() < end {
+        return part_node(nodes, s);
+    }
+    if s == 0 {
+        return part_node(nodes, s);
+    }
+    let start = end - 32;
+    let row = &nodes[start..end];
+    Node {
+        key: fields::get_u64(row, 0),
+        left: fields::get_u16(row, 8),
+        right: fields::get_u16(row, 10),
+    }
 }
 
 // The child and its parent. No test for none: there is nothing to store at slot 0.

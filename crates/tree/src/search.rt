@@ -5,8 +5,7 @@ ghost use Rattle.tree.specs.Node.{way};
 ghost use Rattle.tree.specs.Search.{Ending, seekN};
 use super::dir::Dir;
 use super::node::AvlTree;
-use super::node::get_child;
-use super::node::get_key;
+use super::node::node_at;
 
 // Where a search ends: the record found or 0, the record above it, the side on which it hangs (right
 // on an empty tree), and how many keys were compared.
@@ -33,7 +32,8 @@ pub fn entry(nodes: &[u8], t: AvlTree, key: u64) -> Place
                 compared,
             };
         }
-        let k = get_key(nodes, at);
+        let x = node_at(nodes, at);
+        let k = x.key;
         if key == k {
             return Place {
                 slot: at,
@@ -42,11 +42,9 @@ pub fn entry(nodes: &[u8], t: AvlTree, key: u64) -> Place
                 compared: compared + 1,
             };
         }
-        let d = !(key < k);
-        let c = get_child(nodes, at, Dir(d));
         parent = at;
-        side = d;
-        at = c;
+        side = !(key < k);
+        at = if side { x.right } else { x.left };
         compared += 1;
     }
     Place {

@@ -1,13 +1,13 @@
 //! A fuzz run: random and damaged pools, batches and sizes through the four functions of
 //! libzimatuno.a.
 //!
-//! To run, on x86-64 Linux, after `rt staticlib zimatuno`:
+//! To run, on x86-64 or aarch64 Linux, after `bindings/library`:
 //!
 //! ```text
 //! cargo run --release -- [SEED [COUNT [FIRST]]]
 //! ```
 //!
-//! `ZIMATUNO_LIB_DIR` names another folder for the archive than ../../target/staticlib. COUNT
+//! `ZIMATUNO_LIB_DIR` names another folder for the archive than the one that it writes to. COUNT
 //! steps are run, from step FIRST on; a step depends on nothing but SEED and its number, so
 //! `SEED 1 STEP` runs a step again. The exit code is 1 after a fault, 2 for a wrong argument.
 

@@ -4,9 +4,6 @@
 
 use crate::guarded::Guarded;
 
-#[cfg(not(all(target_arch = "x86_64", target_os = "linux")))]
-compile_error!("libzimatuno.a is for x86-64 Linux");
-
 extern "C" {
     fn zt_create(n: u16, t: u16, x: u32, buffer: *mut u8, length: usize) -> u8;
     fn zt_check(pool: *const u8, length: usize) -> u8;

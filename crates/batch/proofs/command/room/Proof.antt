@@ -6,7 +6,7 @@ use Rattle.batch.proofs.command.room.Tie as tie
 
 returns : tie.Need-returns
 unfolding roomN
-returns c = (cc)
+returns c ts = (cc)
 
 pub room-spec : {M : Type 1} → statement M
 room-spec =

@@ -1,14 +1,15 @@
 -- `end_at`: by its side.
-use Rattle.batch.proofs.CursorSteps.{end-right, end-left}
+use native.Mathlib.Omega.{arith}
+use borrow.Author.Needs.{needs}
+use Rattle.batch.proofs.CursorSteps.{side-low, end-number}
 use Rattle.batch.proofs.cursor.end_at.Statement.{statement}
 use Rattle.batch.proofs.cursor.end_at.Tie as tie
 
-returns : tie.Need-returns
-returns c = end-right _ _ (c .if1 .taken)
+add-t5 : tie.Need-add-t5
+add-t5 c = omega (arith, side-low (c .before .args .d .0))
 
-returns-2 : tie.Need-returns-2
-returns-2 c = end-left _ _ (c .if1 .left)
+returns : tie.Need-returns
+returns c = end-number _ _ (c .before .args .d .0)
 
 pub end-at-spec : {M : Type 1} → statement M
-end-at-spec =
-    tie.close (tie.spec returns returns-2)
+end-at-spec = tie.close (tie.spec (λ c. search needs) add-t5 returns)

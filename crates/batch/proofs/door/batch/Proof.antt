@@ -30,7 +30,13 @@ part-run-start-2 : tie.Need-part-run-start-2
 part-run-start-2 c = sub-run-2 c
 
 run-requires : tie.Need-run-requires
-run-requires c κs = few _ (c .before .before .before .before .before .before .before .before .before .before .before .before .before .batch-ok .ensures) (c .before .before .before .before .before .before .before .before .before .before .before .before .if1 .left) (c .before .before .before .before .before .before .before .before .before .before .before .get-u16 .ensures)
+run-requires c κs =
+    let c10 = c .before .before .before .before .before .before .before .before .before .before in
+    let c13 = c10 .before .before .before in (
+      few _ (c13 .batch-ok .ensures) (c10 .before .before .if1 .left) (c10 .before .get-u16 .ensures),
+      names-fit _ (c13 .batch-ok .ensures) (c10 .before .before .if1 .left) (c10 .before .get-u16 .ensures),
+      c10 .if2 .left,
+    )
 
 returns-4 : tie.Need-returns-4
 returns-4 c =

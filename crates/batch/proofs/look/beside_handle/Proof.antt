@@ -6,16 +6,12 @@ use Rattle.batch.proofs.look.beside_handle.Tie as tie
 
 returns : tie.Need-returns
 returns c =
-    let c8 = c .before in
-    let c7 = c8 .before in
-    let c6 = c7 .before in
-    let c5 = c6 .before in
-    let c4 = c5 .before .before in
-    let c3 = c4 .before in
-    let c2 = c3 .before in
-    let c1 = c2 .before in
-    beside-handle-steps _ _ _ _ (c1 .record-at .ensures) (c2 .walk-dir .ensures) (c3 .refuse .ensures) (c4 .handle .ensures)
-    (c5 .is-outside .ensures) (c6 .is-outside2 .ensures) (c7 .refuse2 .ensures) (c8 .refuse3 .ensures) (c .look .ensures)
+    let c4 = c .before .before .before .before in
+    let c6 = c4 .before .before in
+    let c8 = c6 .before .before in
+    beside-handle-steps _ _ _ _ (c8 .before .record-at .ensures) (c8 .walk-dir .ensures) (c6 .before .refuse .ensures) (c6 .handle .ensures)
+    (c4 .is-outside .ensures) (c .before .before .before .is-outside2 .ensures) (c .before .before .refuse2 .ensures)
+    (c .before .refuse3 .ensures) (c .glance .ensures _ _)
 
 pub beside-handle-spec : {M : Type 1} → statement M
 beside-handle-spec =

@@ -6,13 +6,11 @@ use Rattle.batch.proofs.look.first.Tie as tie
 
 returns : tie.Need-returns
 returns c =
-    let c4 = c .before in
-    let c3 = c4 .before in
-    let c2 = c3 .before in
-    let c1 = c2 .before .before in
-    first-steps _ _ _ _ (c1 .end-of .ensures) (c2 .is-outside .ensures) (c3 .refuse .ensures) (c4 .refuse2 .ensures) (c .look .ensures)
+    let c3 = c .before .before .before in
+    let c5 = c3 .before .before in
+    first-steps _ _ _ _ (c5 .before .before .pre) (c5 .bottom-child .ensures) (c3 .is-outside .ensures) (c .before .before .refuse .ensures)
+    (c .before .refuse2 .ensures) (c .glance .ensures _ _)
 
 pub first-spec : {M : Type 1} → statement M
 first-spec =
-    tie.close
-    (tie.spec (λ c κs. tt) (λ c. search needs) (λ c κs. tt) (λ c κs. tt) (λ c κs. tt) (λ c κs. tt) returns)
+    tie.close (tie.spec (λ c κs. tt) (λ c. search needs) (λ c κs. tt) (λ c κs. tt) (λ c κs. tt) (λ c κs. tt) returns)

@@ -12,7 +12,7 @@ returns c =
     let c2 = c3 .before in
     let c1 = c2 .before in
     move-steps _ _ _ (c1 .beside .ensures) (c2 .kind .ensures) (c3 .refuse .ensures) (c4 .refuse2 .ensures) (c5 .at .ensures)
-    (c6 .lost-move .ensures) (c .look .ensures)
+    (c6 .lost-move .ensures) (c .look .ensures _ _)
 
 pub move-beside-spec : {M : Type 1} → statement M
 move-beside-spec =

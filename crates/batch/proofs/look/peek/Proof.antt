@@ -9,7 +9,7 @@ returns c =
     let c3 = c4 .before in
     let c2 = c3 .before in
     let c1 = c2 .before in
-    peek-steps _ _ _ (c1 .beside .ensures) (c2 .kind .ensures) (c3 .refuse .ensures) (c4 .refuse2 .ensures) (c .look .ensures)
+    peek-steps _ _ _ (c1 .beside .ensures) (c2 .kind .ensures) (c3 .refuse .ensures) (c4 .refuse2 .ensures) (c .look .ensures _ _)
 
 pub peek-spec : {M : Type 1} → statement M
 peek-spec =

@@ -1,14 +1,16 @@
 -- `commit`: by whether a mark is open.
+use Rattle.batch.specs.Work.{workOf}
 use Rattle.batch.proofs.MarkSteps.{commit-done, commit-refused}
 use Rattle.batch.proofs.mark.commit.Statement.{statement}
 use Rattle.batch.proofs.mark.commit.Tie as tie
 
 returns : tie.Need-returns
-returns c = commit-done _ (c .before .before .if1 .taken) (c .silent .ensures)
+returns c =
+    let a = c .before .before .before .args in
+    commit-done (workOf (a .b) (a .ts)) (c .before .before .if1 .taken) (c .before .head-of .ensures) (c .silent .ensures)
 
 returns-2 : tie.Need-returns-2
-returns-2 c = commit-refused _ (c .before .before .if1 .left) (c .before .place .ensures) (c .refused .ensures)
+returns-2 c = commit-refused _ (c .before .if1 .left) (c .refused .ensures)
 
 pub commit-spec : {M : Type 1} → statement M
-commit-spec =
-    tie.close (tie.spec (λ c κs. tt) returns (λ c κs. tt) (λ c κs. tt) returns-2)
+commit-spec = tie.close (tie.spec (λ c κs. tt) (λ c κs. tt) returns (λ c κs. tt) returns-2)

@@ -1,12 +1,10 @@
 -- `silent`: no record.
-use Rattle.batch.specs.Ops.{silentN}
+use Rattle.batch.proofs.MarkSteps.{silent-steps}
 use Rattle.batch.proofs.mark.silent.Statement.{statement}
 use Rattle.batch.proofs.mark.silent.Tie as tie
 
 returns : tie.Need-returns
-unfolding silentN
-returns c = (cc)
+returns c = silent-steps _ _ _ _ (c .begun .ensures)
 
 pub silent-spec : {M : Type 1} → statement M
-silent-spec =
-    tie.close (tie.spec (λ c κs. tt) returns)
+silent-spec = tie.close (tie.spec (λ c κs. tt) returns)

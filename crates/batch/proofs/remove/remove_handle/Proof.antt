@@ -1,10 +1,15 @@
 -- `remove_handle`: the handle's record, the tests, the record taken out.
 use borrow.Author.Needs.{needs}
+use Rattle.batch.specs.Work.{cursorOf}
 use Rattle.batch.proofs.RemoveSteps.{remove-handle-steps}
 use Rattle.batch.proofs.remove.remove_handle.Statement.{statement}
 use Rattle.batch.proofs.remove.remove_handle.Tie as tie
 
+take-out-requires : tie.Need-take-out-requires
+take-out-requires c κs = c .before .before .before .before .before .before .before .before .before .before .pre
+
 returns : tie.Need-returns
+unfolding cursorOf
 returns c =
     let c7 = c .before .before in
     let c6 = c7 .before .before in
@@ -19,5 +24,5 @@ returns c =
 pub remove-handle-spec : {M : Type 1} → statement M
 remove-handle-spec =
     tie.close
-    (tie.spec (λ c κs. tt) (λ c κs. tt) (λ c. search needs) (λ c κs. tt) (λ c κs. tt) (λ c κs. tt) (λ c κs. tt) (λ c κs. tt)
+    (tie.spec (λ c κs. tt) (λ c κs. tt) (λ c. search needs) (λ c κs. tt) (λ c κs. tt) (λ c κs. tt) (λ c κs. tt) take-out-requires
     (λ c. search needs) returns)

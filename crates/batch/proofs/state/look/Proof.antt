@@ -4,11 +4,10 @@ use Rattle.batch.proofs.state.look.Statement.{statement}
 use Rattle.batch.proofs.state.look.Tie as tie
 
 returns : tie.Need-returns
-returns c = look-refused _ _ _ _ _ _ (c .before .before .if1 .taken) (c .before .place .ensures) (c .refused .ensures)
+returns c = λ m w. look-refused m w _ _ _ _ (c .if1 .taken)
 
 returns-2 : tie.Need-returns-2
-returns-2 c = look-done _ _ _ _ _ _ (c .before .before .if1 .left) (c .before .place2 .ensures) (c .record-at .ensures)
+returns-2 c = λ m w. look-done m w _ _ _ _ (c .if1 .left)
 
 pub look-spec : {M : Type 1} → statement M
-look-spec =
-    tie.close (tie.spec (λ c κs. tt) (λ c κs. tt) returns (λ c κs. tt) (λ c κs. tt) returns-2)
+look-spec = tie.close (tie.spec returns returns-2)

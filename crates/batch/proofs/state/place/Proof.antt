@@ -6,8 +6,7 @@ use Rattle.batch.proofs.state.place.Tie as tie
 
 returns : tie.Need-returns
 unfolding placed
-returns c = refl
+returns c = λ ts. refl
 
 pub place-spec : {M : Type 1} → statement M
-place-spec =
-    tie.close (tie.spec returns)
+place-spec = tie.close (tie.spec returns)

@@ -2,6 +2,7 @@
 use borrow.Author.Needs.{needs}
 use denote.Ref.{now}
 use native.Mathlib.Omega.{arith}
+use lib.ListN.{length-take, length-drop}
 use Rattle.pool.proofs.CheckAnswers.{bad-header, Read, have-read, fits, bad-entries, bad-records, bad-text, bad-trees, bad-live, all-good}
 use Rattle.pool.proofs.check.judge.Statement.{statement}
 use Rattle.pool.proofs.check.judge.Tie as tie
@@ -77,7 +78,8 @@ part-trees-ok-end c = omega (arith, fits (read-there (c .before .before .before 
 
 trees-ok-requires : tie.Need-trees-ok-requires
 trees-ok-requires c κs =
-    let f = fits (read-there (c .before .before .before .before .before .before .before .before)) in (omega (arith, f .inside), f .trees-high)
+    let f = fits (read-there (c .before .before .before .before .before .before .before .before)) in
+    (omega (arith, f .inside), f .trees-high, simp (length-take, length-drop) (omega (arith, f .inside)))
 
 returns-5 : tie.Need-returns-5
 returns-5 c =

@@ -1,37 +1,21 @@
--- `beside`: by its case, and a vacant entry by its side.
-use borrow.Author.Needs.{needs}
-use mathlib.Core.Path.{_∙_}
+-- `beside`: none nowhere, the record above a vacant entry on its other side, else by the walk.
+use mathlib.Core.Logic.{⊎-elim}
 use Rattle.batch.specs.Work.{besideN}
-use Rattle.batch.proofs.CursorSteps.{in-case, beside-along, beside-across}
+use Rattle.batch.proofs.CursorSteps.{none, beside-record, beside-along, beside-across}
 use Rattle.batch.proofs.cursor.Cursor.beside.Statement.{statement}
 use Rattle.batch.proofs.cursor.Cursor.beside.Tie as tie
 
 returns : tie.Need-returns
-returns c =
-    beside-along _ _ _ _ _ _ (c .before .before .before .before .self2 .given .1) (c .before .before .is .ensures) (c .before .if1 .taken)
-    (c .walk-dir2 .ensures)
+unfolding besideN
+returns c = none _ (besideN _ _) (c .if1 .taken)
 
 returns-2 : tie.Need-returns-2
-unfolding besideN
-returns-2 c = in-case (besideN _ _) (c .enum-told .given .1)
+returns-2 c = beside-across _ _ _ (c .before .before .before .if2 .taken) (c .before .is .ensures) (c .if3 .taken)
 
 returns-3 : tie.Need-returns-3
-unfolding besideN
-returns-3 c = c .walk-dir .ensures ∙ in-case (besideN _ _) (c .before .before .self .given .1)
-
-returns-4 : tie.Need-returns-4
-returns-4 c = beside-across _ _ _ _ _ _ (c .before .before .before .self2 .given .1) (c .before .is .ensures) (c .if1 .left)
-
-returns-5 : tie.Need-returns-5
-unfolding besideN
-returns-5 c = c .walk-dir3 .ensures ∙ in-case (besideN _ _) (c .before .before .self3 .given .1)
-
-returns-6 : tie.Need-returns-6
-unfolding besideN
-returns-6 c = c .walk-dir4 .ensures ∙ in-case (besideN _ _) (c .before .before .self4 .given .1)
+returns-3 c =
+    ⊎-elim (λ w. beside-along _ _ _ (w .0 .taken) (w .2 .ensures) (w .3 .left) (c .walk-dir .ensures))
+    (λ w. beside-record _ _ _ (c .before .before .before .if1 .left) (w .left) (c .walk-dir .ensures)) (c .before .if2 .came)
 
 pub beside-spec : {M : Type 1} → statement M
-beside-spec =
-    tie.close
-    (tie.spec (λ c. search needs) (λ c. search needs) (λ c κs. tt) (λ c. search needs) (λ c κs. tt) (λ c κs. tt) returns (λ c. search needs)
-    (λ c κs. tt) (λ c. search needs) (λ c κs. tt) returns-2 returns-3 returns-4 returns-5 returns-6)
+beside-spec = tie.close (tie.spec returns (λ c κs. tt) returns-2 (λ c κs. tt) returns-3)

@@ -6,5 +6,4 @@ returns : tie.Need-returns
 returns c = (cc)
 
 pub end-spec : {M : Type 1} → statement M
-end-spec =
-    tie.close (tie.spec (λ c κs. tt) (λ c κs. tt) returns)
+end-spec = tie.close (tie.spec (λ c κs. tt) (λ c κs. tt) returns)

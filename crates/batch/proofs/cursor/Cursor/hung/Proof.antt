@@ -1,18 +1,15 @@
--- `hung`: by its case.
-use borrow.Author.Needs.{needs}
+-- `hung`: the place of a vacant entry, none of another.
 use Rattle.batch.specs.Work.{hungN}
-use Rattle.batch.proofs.CursorSteps.{in-case}
+use Rattle.batch.proofs.CursorSteps.{hangs, unhung}
 use Rattle.batch.proofs.cursor.Cursor.hung.Statement.{statement}
 use Rattle.batch.proofs.cursor.Cursor.hung.Tie as tie
 
-pub hung-spec : {M : Type 1} → statement M
+returns : tie.Need-returns
 unfolding hungN
-hung-spec =
-    tie.close
-    (tie.spec
-    (λ c. search needs) (λ c. search needs) (λ c. search needs) (λ c. search needs) (λ c. search needs)
-    (λ c. in-case hungN (c .enum-told .given .1))
-    (λ c. in-case hungN (c .enum-told2 .given .1))
-    (λ c. in-case hungN (c .before .self .given .1))
-    (λ c. in-case hungN (c .enum-told3 .given .1))
-    (λ c. in-case hungN (c .enum-told4 .given .1)))
+returns c = hangs _ hungN (c .before .if1 .taken)
+
+returns-2 : tie.Need-returns-2
+returns-2 c = unhung _ (c .if1 .left)
+
+pub hung-spec : {M : Type 1} → statement M
+hung-spec = tie.close (tie.spec returns returns-2)

@@ -1,18 +1,19 @@
--- `standing`: by its case.
-use borrow.Author.Needs.{needs}
+-- `standing`: none nowhere and at a vacant entry.
 use Rattle.meaning.specs.Cursor.{standing}
-use Rattle.batch.proofs.CursorSteps.{in-case}
+use Rattle.batch.proofs.CursorSteps.{none, hangs, stands}
 use Rattle.batch.proofs.cursor.Cursor.standing.Statement.{statement}
 use Rattle.batch.proofs.cursor.Cursor.standing.Tie as tie
 
-pub standing-spec : {M : Type 1} → statement M
+returns : tie.Need-returns
 unfolding standing
-standing-spec =
-    tie.close
-    (tie.spec
-    (λ c. search needs) (λ c. search needs) (λ c. search needs) (λ c. search needs) (λ c. search needs)
-    (λ c. in-case standing (c .enum-told .given .1))
-    (λ c. in-case standing (c .before .self .given .1))
-    (λ c. in-case standing (c .enum-told2 .given .1))
-    (λ c. in-case standing (c .before .self2 .given .1))
-    (λ c. in-case standing (c .before .self3 .given .1)))
+returns c = none _ standing (c .if1 .taken)
+
+returns-2 : tie.Need-returns-2
+unfolding standing
+returns-2 c = hangs _ standing (c .if2 .taken)
+
+returns-3 : tie.Need-returns-3
+returns-3 c = stands _ (c .before .before .if1 .left) (c .if2 .left)
+
+pub standing-spec : {M : Type 1} → statement M
+standing-spec = tie.close (tie.spec returns returns-2 returns-3)

@@ -1,18 +1,15 @@
--- `tree`: by its case.
-use borrow.Author.Needs.{needs}
+-- `tree`: none nowhere.
 use Rattle.meaning.specs.Cursor.{cursorTree}
-use Rattle.batch.proofs.CursorSteps.{in-case}
+use Rattle.batch.proofs.CursorSteps.{none, tree-some}
 use Rattle.batch.proofs.cursor.Cursor.tree.Statement.{statement}
 use Rattle.batch.proofs.cursor.Cursor.tree.Tie as tie
 
-pub tree-spec : {M : Type 1} → statement M
+returns : tie.Need-returns
 unfolding cursorTree
-tree-spec =
-    tie.close
-    (tie.spec
-    (λ c. search needs) (λ c. search needs) (λ c. search needs) (λ c. search needs) (λ c. search needs)
-    (λ c. in-case cursorTree (c .enum-told .given .1))
-    (λ c. in-case cursorTree (c .before .self .given .1))
-    (λ c. in-case cursorTree (c .before .self2 .given .1))
-    (λ c. in-case cursorTree (c .before .self3 .given .1))
-    (λ c. in-case cursorTree (c .before .self4 .given .1)))
+returns c = none _ cursorTree (c .if1 .taken)
+
+returns-2 : tie.Need-returns-2
+returns-2 c = tree-some _ (c .if1 .left)
+
+pub tree-spec : {M : Type 1} → statement M
+tree-spec = tie.close (tie.spec returns returns-2)

@@ -19,7 +19,7 @@ struct Plan {
 
 fn main() -> Result<(), Box<dyn Error>> {
     if !LINKED {
-        println!("not run: libzimatuno.a is for x86-64 Linux only");
+        println!("not run: libzimatuno.a was not there when this was compiled");
         return Ok(());
     }
     let mut pool = vec![0; pool_size(8, 2, 64)?];

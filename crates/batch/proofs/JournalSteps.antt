@@ -15,7 +15,7 @@ use Rattle.slots.specs.Change.{Image, putRecN, dropRecN, cutN}
 use Rattle.slots.specs.declared.head.Head.{Head}
 use Rattle.slots.specs.declared.record.Record.{Record}
 use Rattle.batch.specs.Work.{Work}
-use Rattle.batch.specs.Run.{noEntry, undoOneN, undoN, rollBackN, begunN}
+use Rattle.batch.specs.Run.{noEntry, entryRec, undoOneN, undoN, rollBackN, begunN}
 use Rattle.batch.specs.declared.journal.Entry.{Entry}
 
 module _ (m : List ℕ) (h : Head) (e : Entry) where
@@ -26,8 +26,8 @@ module _ (m : List ℕ) (h : Head) (e : Entry) where
   undo-added t e1 e2 = simp t (cc)
 
   -- A removed one goes back.
-  pub undo-removed : e .added ≡ false → {t : AvlTree} {s : Ending} {o : Image} → t ≡ treeN (h .table) (e .rec .tree)
-      → s ≡ seekN 14 m (e .rec .key) (t .root) 0 right 0 → o ≡ putRecN m h (e .slot) (e .rec) (s .above) (s .side) → o ≡ undoOneN m h e
+  pub undo-removed : e .added ≡ false → {t : AvlTree} {s : Ending} {o : Image} → t ≡ treeN (h .table) (e .home)
+      → s ≡ seekN 14 m (e .key) (t .root) 0 right 0 → o ≡ putRecN m h (e .slot) (entryRec e) (s .above) (s .side) → o ≡ undoOneN m h e
   unfolding undoOneN
   undo-removed f e1 e2 e3 = simp f (cc)
 

@@ -1,7 +1,7 @@
 -- The ways in which a command ends, call by call, and the state after a change. Assumes nothing.
 use mathlib.Core.Bool.{Bool, true, false, not}
 use mathlib.Core.List.{List}
-use mathlib.Core.Path.{_≡_, sym, ap, _∙_}
+use mathlib.Core.Path.{_≡_, refl, sym, ap, _∙_}
 use Prim.Native.Nat.{ℕ, _+_, _*_}
 use native.Mathlib.Omega.{arith}
 use lib.Dec.{leb, ltb}
@@ -53,11 +53,28 @@ tree-other b ts t e1 e2 = e2 ∙ ap (λ (g : Head). treeN (g .table) t) e1
 
 -- ---- a record taken out or added
 
+-- a step about the record v
+abbrev about : Record → CodeCursor → AvlTree → ℕ → ℕ → ℕ → ℕ → Step
+about v k t change slot free code =
+    record {
+      cursor = k;
+      key = v .key;
+      stamp = v .stamp;
+      start = v .start;
+      tree = t;
+      change = change;
+      slot = slot;
+      free = free;
+      len = v .len;
+      home = v .tree;
+      code = code;
+    }
+
 -- A refusal shows no record and changes nothing.
-pub refused-steps : (w : Work) (k : CodeCursor) (t : AvlTree) (e : ℕ) {v : Record} → v ≡ noRecord
-    → stepOf w (record { rec = v; cursor = k; tree = t; slot = 0; free = 0; code = e; change = 0 }) ≡ refusedN (placed w (cursorOf k)) e
+pub refused-steps : (w : Work) (k : CodeCursor) (t : AvlTree) (e : ℕ)
+    → stepOf w (about noRecord k t 0 0 0 e) ≡ refusedN (placed w (cursorOf k)) e
 unfolding refusedN placed headAfter noted within
-refused-steps w k t e h = (cc)
+refused-steps w k t e = refl
 
 module _ (m : List ℕ) (w : Work) (e x : ℕ) where
   -- A command that removes a record, refused.
@@ -69,7 +86,7 @@ module _ (m : List ℕ) (w : Work) (e x : ℕ) where
   -- The record taken out.
   pub take-done : (done : CodeCursor) (lost : Cursor) → e ≡ 0 → {v : Record} {g : AvlTree} {o : Store} {free : ℕ} → v ≡ recordN m x
       → g ≡ treeN (w .head .table) (v .tree) → o ≡ takenN m g x → free ≡ freedN (w .head .free) x
-      → _≡_ {A = Out} (o .0, stepOf w (record { rec = v; cursor = done; tree = o .1; slot = x; free = free; code = 0; change = 2 }))
+      → _≡_ {A = Out} (o .0, stepOf w (about v done (o .1) 2 x free 0))
       (takeOutN m w e x (cursorOf done) lost)
   unfolding takeOutN headed dropRecN headAfter noted within
   take-done done lost z e1 e2 e3 e4 = simp (eq-eqb e 0 z) (cc)
@@ -82,14 +99,14 @@ module _ (m names : List ℕ) (w : Work) (c : Command) (e t p : ℕ) (d : Dir) w
   add-refused done lost z h = simp (ne-eqb e 0 z) (ap (λ (r : Did). (m, r)) h)
 
   -- The record added.
-  pub add-done : (done : CodeCursor) (lost : Cursor) → e ≡ 0 → {named : List ℕ} {u : AvlTree} {v r : Record} {o : Store} {free : ℕ}
+  pub add-done : (done : CodeCursor) (lost : Cursor) → e ≡ 0 → {named : List ℕ} {u : AvlTree} {v : Record} {o : Store} {free : ℕ}
       → u ≡ treeN (w .head .table) t → named ≡ splice m (32 * w .head .slots + w .head .used) (part names (c .at) (c .len))
-      → v ≡ newRecord (w .head) c t → o ≡ hungN named u (w .head .free) v p d → r ≡ newRecord (w .head) c t
+      → v ≡ newRecord (w .head) c t → o ≡ hungN named u (w .head .free) v p d
       → free ≡ freeAfterN (o .0) (w .head .slots) (w .head .free) (w .head .free)
-      → _≡_ {A = Out} (o .0, stepOf w (record { rec = r; cursor = done; tree = o .1; slot = w .head .free; free = free; code = 0; change = 1 }))
+      → _≡_ {A = Out} (o .0, stepOf w (about (newRecord (w .head) c t) done (o .1) 1 (w .head .free) free 0))
       (addNewN m names w c e t p d (cursorOf done) lost)
   unfolding addNewN headed addRecN putRecN grownN headAfter noted within
-  add-done done lost z e1 e2 e3 e4 e5 e6 = simp (eq-eqb e 0 z) (cc)
+  add-done done lost z e1 e2 e3 e4 e5 = simp (eq-eqb e 0 z) (cc)
 
 -- ---- the state after a change
 
@@ -130,7 +147,7 @@ module _ (b : Batch) (r : Step) (ts : List AvlTree) {n : Bool} (e1 : n ≡ noted
   after-none h = let k : noted (r .change) ≡ false = sym e1 ∙ not-true n h in simp k
 
   -- A record added.
-  pub after-added : not n ≡ false → r .change ≡ 1 → {live used next : ℕ} → live ≡ moreN (b .live) → used ≡ plusN (b .used) (r .rec .len)
+  pub after-added : not n ≡ false → r .change ≡ 1 → {live used next : ℕ} → live ≡ moreN (b .live) → used ≡ plusN (b .used) (r .len)
       → next ≡ riseN (b .next) → workOf (numbered b r live (r .free) used next) (tableAfter ts r) ≡ stepped (workOf b ts) r
   unfolding tableAfter headAfter
   after-added h z e2 e3 e4 = let k : noted (r .change) ≡ true = sym e1 ∙ not-false n h in simp (k, eq-eqb _ _ z) (cc)

@@ -38,7 +38,7 @@ noted-none es n d t = simp t
 -- ---- the state after a change
 
 -- The table is set.
-pub after-set : (b : Batch) (w : Work) (ts us : List AvlTree) (r : Step) → noted (r .change) ≡ true → us ≡ setTreeN ts (r .rec .tree) (r .tree)
+pub after-set : (b : Batch) (w : Work) (ts us : List AvlTree) (r : Step) → noted (r .change) ≡ true → us ≡ setTreeN ts (r .home) (r .tree)
     → workOf b (tableAfter ts r) ≡ w → workOf b us ≡ w
 unfolding tableAfter
 after-set b w ts us r t e f = ap (workOf b) e ∙ (simp t at f)

@@ -39,7 +39,7 @@ use Rattle.slots.proofs.Changing.{put-image, drop-image}
 use Rattle.slots.proofs.Looking.{record-image, tree-image, entry-image}
 use Rattle.slots.proofs.Texts.{rows-as, cut-image}
 use Rattle.batch.specs.Work.{Work}
-use Rattle.batch.specs.Run.{noEntry, undoOneN, undoN, rollBackN}
+use Rattle.batch.specs.Run.{noEntry, entryRec, undoOneN, undoN, rollBackN}
 use Rattle.batch.specs.Image.{recOf, changeOf, changesIn, workIn, markUsed}
 use Rattle.batch.specs.declared.journal.Entry.{Entry}
 use Rattle.batch.proofs.Agreeing.{Notes, shut, kept}
@@ -133,7 +133,7 @@ unfolding undoOneN undoneN changeOf recOf recordOf
 one-undone m h e = go (e .added)
   where
     v : Record
-    v = e .rec
+    v = entryRec e
 
     s : Ending
     s = seekN 14 m (v .key) (treeN (h .table) (v .tree) .root) 0 right 0

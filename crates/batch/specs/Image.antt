@@ -13,7 +13,7 @@ use Rattle.slots.specs.Image.{headOf}
 use Rattle.slots.specs.declared.record.Record.{Record}
 use Rattle.batch.specs.Tests.{namedN}
 use Rattle.batch.specs.Work.{Work}
-use Rattle.batch.specs.Run.{noEntry}
+use Rattle.batch.specs.Run.{noEntry, entryRec}
 use Rattle.batch.specs.declared.command.Command.{Command as CodeCommand}
 use Rattle.batch.specs.declared.journal.Entry.{Entry}
 
@@ -44,7 +44,7 @@ recOf v = record { tree = v .tree; key = v .key; stamp = v .stamp; start = v .st
 
 -- what an entry of the journal says
 unfoldable pub changeOf : Entry → Change
-changeOf e = cond (e .added) (added (e .slot)) (removed (e .slot) (recOf (e .rec)))
+changeOf e = cond (e .added) (added (e .slot)) (removed (e .slot) (recOf (entryRec e)))
 
 -- the first n entries, the last first
 unfoldable pub changesIn : ℕ → List Entry → List Change

@@ -7,11 +7,12 @@ use lib.ListN.{getD, set, replicate}
 use Rattle.avl.specs.Tree.{right}
 use Rattle.tree.specs.Search.{seekN}
 use Rattle.meaning.specs.Cursor.{nowhere, kind}
-use Rattle.slots.specs.Record.{noRecord, recordN}
+use Rattle.slots.specs.Record.{recordN}
 use Rattle.slots.specs.Head.{treeN}
 use Rattle.slots.specs.Change.{Image, putRecN, dropRecN, cutN}
 use Rattle.slots.specs.Answer.{putAnswerN}
 use Rattle.slots.specs.declared.head.Head.{Head}
+use Rattle.slots.specs.declared.record.Record.{Record}
 use Rattle.tree.specs.declared.node.AvlTree.{AvlTree}
 use Rattle.meaning.specs.Layout.{within}
 use Rattle.batch.specs.Tests.{commandN}
@@ -20,12 +21,16 @@ use Rattle.batch.specs.Ops.{performN}
 use Rattle.batch.specs.declared.journal.Entry.{Entry}
 
 abbrev pub noEntry : Entry
-noEntry = record { rec = noRecord; slot = 0; added = false }
+noEntry = record { key = 0; stamp = 0; start = 0; len = 0; slot = 0; home = 0; added = false; spare = 0 }
+
+-- the record that an entry is about
+abbrev pub entryRec : Entry → Record
+entryRec e = record { key = e .key; stamp = e .stamp; start = e .start; len = e .len; tree = e .home }
 
 -- an added record is removed; a removed one goes back into its slot and its tree
 unfoldable pub undoOneN : List ℕ → Head → Entry → Image
 undoOneN m h e =
-    let v = e .rec in
+    let v = entryRec e in
     let s = seekN 14 m (v .key) (treeN (h .table) (v .tree) .root) 0 right 0 in
     let out = dropRecN m h (e .slot) (recordN m (e .slot) .tree) in
     let back = putRecN m h (e .slot) v (s .above) (s .side) in
@@ -56,7 +61,18 @@ unfoldable pub pickN : ℕ → AvlTree → AvlTree → AvlTree
 pickN t v other = cond (within 1 8 t) v other
 
 abbrev pub entryOf : Did → Entry
-entryOf d = record { rec = d .rec; slot = d .slot; added = eqb (d .change) 1 }
+entryOf d =
+    let v = d .rec in
+    record {
+      key = v .key;
+      stamp = v .stamp;
+      start = v .start;
+      len = v .len;
+      slot = d .slot;
+      home = v .tree;
+      added = eqb (d .change) 1;
+      spare = 0;
+    }
 
 -- the journal after a command: a change stands behind the n that are there
 unfoldable pub notedN : List Entry → ℕ → Did → List Entry

@@ -105,9 +105,13 @@ sightOf m w s = record { work = placed w (cursorOf (s .cursor)); code = s .code;
 unfoldable pub noted : ℕ → Bool
 noted change = within 1 2 change
 
+-- the record that a step is about
+abbrev pub stepRec : Step → Record
+stepRec s = record { key = s .key; stamp = s .stamp; start = s .start; len = s .len; tree = s .home }
+
 -- the table after the change of a tree
 unfoldable pub tableAfter : List AvlTree → Step → List AvlTree
-tableAfter ts s = cond (noted (s .change)) (setTreeN ts (s .rec .tree) (s .tree)) ts
+tableAfter ts s = cond (noted (s .change)) (setTreeN ts (s .home) (s .tree)) ts
 
 -- the head after no change, after a record was added, after one was removed
 unfoldable pub headAfter : Head → Step → Head
@@ -119,9 +123,9 @@ headAfter h s =
       live = cond added (moreN (h .live)) (lessN (h .live));
       free = s .free;
       size = h .size;
-      used = cond added (plusN (h .used) (s .rec .len)) (h .used);
+      used = cond added (plusN (h .used) (s .len)) (h .used);
       next = cond added (riseN (h .next)) (h .next);
-      table = setTreeN (h .table) (s .rec .tree) (s .tree);
+      table = setTreeN (h .table) (s .home) (s .tree);
     } in
     cond (noted (s .change)) changed h
 
@@ -130,7 +134,7 @@ stepped w s = record { head = headAfter (w .head) s; cursor = cursorOf (s .curso
 
 -- a command that adds or removes a record
 abbrev pub stepOf : Work → Step → Did
-stepOf w s = record { work = stepped w s; code = s .code; slot = s .slot; rec = s .rec; change = s .change }
+stepOf w s = record { work = stepped w s; code = s .code; slot = s .slot; rec = stepRec s; change = s .change }
 
 -- a command that does neither
 abbrev pub settledOf : Settled → Did

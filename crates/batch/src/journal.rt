@@ -8,23 +8,34 @@ use slots::change::drop_rec;
 use slots::change::put_rec;
 use slots::head::Head;
 use slots::record::Record;
-use slots::record::nothing;
 use slots::record::record_at;
 
 // One change: the record was added to the slot, or this record was removed from it.
 pub struct Entry {
-    pub rec: Record,
+    pub key: u64,
+    pub stamp: u32,
+    pub start: u32,
+    pub len: u16,
     pub slot: u16,
+    // the number of the record's tree
+    pub home: u8,
     pub added: bool,
+    // 0: it fills the struct, so that the journal is cleared as a whole and copied without padding
+    pub spare: u16,
 }
 
 pub fn no_entry() -> Entry
     ensures { λ r. ⌜ r ≡ noEntry ⌝ }
 {
     Entry {
-        rec: nothing(),
+        key: 0,
+        stamp: 0,
+        start: 0,
+        len: 0,
         slot: 0,
+        home: 0,
         added: false,
+        spare: 0,
     }
 }
 
@@ -36,7 +47,13 @@ fn undo_one(body: &mut [u8], h: Head, e: Entry) -> Head
         let old = record_at(body, e.slot);
         return drop_rec(body, h, e.slot, old.tree);
     }
-    let v = e.rec;
+    let v = Record {
+        key: e.key,
+        stamp: e.stamp,
+        start: e.start,
+        len: e.len,
+        tree: e.home,
+    };
     let p = tree::search::entry(body, h.tree(v.tree), v.key);
     let d = p.side;
     put_rec(body, h, e.slot, v, p.parent, d)

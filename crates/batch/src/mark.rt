@@ -18,7 +18,7 @@ pub struct Settled {
     pub batch: Batch,
     pub table: [AvlTree; 8],
     pub code: u8,
-    pub change: u8,
+    pub change: u32,
 }
 
 // Refused, and no cursor.
@@ -52,7 +52,7 @@ pub fn begun(h: Head, marked: bool, mark: u32) -> Batch
 }
 
 // Done, with no record shown and no cursor.
-fn silent(h: Head, marked: bool, mark: u32, change: u8) -> Settled
+fn silent(h: Head, marked: bool, mark: u32, change: u32) -> Settled
     ensures { λ r. ⌜ settledOf r ≡ silentN h marked mark change ⌝ }
 {
     let ts = h.table;

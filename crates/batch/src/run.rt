@@ -4,7 +4,7 @@ ghost use mathlib.Core.List.{List};
 ghost use mathlib.Core.Path.{_≡_};
 ghost use Prim.Native.Nat.{ℕ, _+_, _*_, _-_, _≤_};
 ghost use lib.ListN.{length};
-ghost use Rattle.batch.specs.Work.{Work, workOf, sightOf, stepOf, settledOf};
+ghost use Rattle.batch.specs.Work.{Work, workOf, sightOf, stepRec, stepOf, settledOf};
 ghost use Rattle.batch.specs.Run.{countN, placeN, pickN, entryOf, endN, answeredN};
 use super::command::read_command;
 use super::journal::Entry;
@@ -27,6 +27,7 @@ use super::state::is_noted;
 use super::state::place;
 use slots::answer::put_answer;
 use slots::head::Head;
+use slots::record::Record;
 use slots::record::nothing;
 use slots::record::record_at;
 use tree::node::AvlTree;
@@ -71,14 +72,26 @@ fn show(body: &[u8], out: &mut [u8], k: u16, s: Sight)
     put_answer(out, k, s.code, c.kind(), s.slot, v);
 }
 
+// The record that a step is about.
+fn record_of(r: Step) -> Record
+    ensures { λ v. ⌜ v ≡ stepRec r ⌝ }
+{
+    Record {
+        key: r.key,
+        stamp: r.stamp,
+        start: r.start,
+        len: r.len,
+        tree: r.home,
+    }
+}
+
 // Of an addition or a removal.
 fn answer(out: &mut [u8], k: u16, r: Step)
     requires { ⌜ 24 * (k + 1) ≤ length (now out) ⌝ }
     ensures { λ _. ⌜ ((w : Work) → now (out .exit) ≡ answeredN (now (out .entry)) k (stepOf w r)) ⌝ }
 {
     let c = r.cursor;
-    let v = r.rec;
-    put_answer(out, k, r.code, c.kind(), r.slot, v);
+    put_answer(out, k, r.code, c.kind(), r.slot, record_of(r));
 }
 
 // Of a command that settles.
@@ -97,16 +110,20 @@ fn confirm(out: &mut [u8], k: u16, r: Settled)
 fn entry_of(r: Step) -> Entry
     ensures { λ e. ⌜ ((w : Work) → e ≡ entryOf (stepOf w r)) ⌝ }
 {
-    let v = r.rec;
     Entry {
-        rec: v,
+        key: r.key,
+        stamp: r.stamp,
+        start: r.start,
+        len: r.len,
         slot: r.slot,
+        home: r.home,
         added: r.change == 1,
+        spare: 0,
     }
 }
 
 // How many changes the journal has after a command.
-fn count_after(n: u16, change: u8) -> u16
+fn count_after(n: u16, change: u32) -> u16
     requires { ⌜ n ≤ 255 ⌝ }
     ensures { λ r. ⌜ (r ≡ countN n change) × (r ≤ n + 1) ⌝ }
 {
@@ -159,11 +176,10 @@ pub fn run(body: &mut [u8], w: &[u8], names: &[u8], out: &mut [u8], h: Head, cou
             n = count_after(n, r.change);
             b = after(b, r);
             if is_noted(r.change) {
-                let v = r.rec;
                 let a = r.tree;
-                let j = table_place(v.tree) as usize;
+                let j = table_place(r.home) as usize;
                 es[last] = entry_of(r);
-                ts[j] = pick(v.tree, a, ts[j]);
+                ts[j] = pick(r.home, a, ts[j]);
             }
         } else {
             if is_settling(c.op) {

@@ -19,7 +19,6 @@ use slots::change::rise;
 use slots::change::take;
 use slots::head::Head;
 use slots::record::Record;
-use slots::record::nothing;
 use slots::record::record_at;
 use tree::insert::Spot;
 use tree::insert::more;
@@ -51,15 +50,21 @@ pub struct Sight {
 }
 
 // What an addition or a removal has done: its answer, the cursor after it, and the rest of the change: the
-// record's tree and the lowest free slot after it. change: 0 none, 1 the record was added, 2 removed.
+// record's tree and the lowest free slot after it. change: 0 none, 1 the record was added, 2 removed. The
+// fields fill it, so that a copy moves no padding.
 pub struct Step {
-    pub rec: Record,
     pub cursor: Cursor,
+    pub key: u64,
+    pub stamp: u32,
+    pub start: u32,
     pub tree: AvlTree,
+    pub change: u32,
     pub slot: u16,
     pub free: u16,
+    pub len: u16,
+    // the number of the record's tree
+    pub home: u8,
     pub code: u8,
-    pub change: u8,
 }
 
 // The state with another cursor.
@@ -115,13 +120,17 @@ fn refused(k: Cursor, e: u8) -> Step
     ensures { λ r. ⌜ ((w : Work) → stepOf w r ≡ refusedN (placed w (cursorOf k)) e) ⌝ }
 {
     Step {
-        rec: nothing(),
         cursor: k,
+        key: 0,
+        stamp: 0,
+        start: 0,
         tree: AvlTree { root: 0, count: 0 },
+        change: 0,
         slot: 0,
         free: 0,
+        len: 0,
+        home: 0,
         code: e,
-        change: 0,
     }
 }
 
@@ -176,13 +185,17 @@ pub fn take_out(
     let g = tree_in(b, ts, k, u, v.tree);
     let a = take(body, g, x);
     Step {
-        rec: v,
         cursor: done,
+        key: v.key,
+        stamp: v.stamp,
+        start: v.start,
         tree: a,
+        change: 2,
         slot: x,
         free: freed(b.free, x),
+        len: v.len,
+        home: v.tree,
         code: 0,
-        change: 2,
     }
 }
 
@@ -226,20 +239,24 @@ pub fn add_new(
     let d = s.side;
     let a = hang_in(body, u, x, new_record(b, c, t), s.parent, d);
     Step {
-        rec: new_record(b, c, t),
         cursor: done,
+        key: c.key,
+        stamp: b.next,
+        start: b.used,
         tree: a,
+        change: 1,
         slot: x,
         free: free_after(body, b.slots, x, x),
+        len: c.len,
+        home: t,
         code: 0,
-        change: 1,
     }
 }
 
 // ---- the state after a change
 
 // Whether a record was added or removed.
-pub fn is_noted(change: u8) -> bool
+pub fn is_noted(change: u32) -> bool
     ensures { λ r. ⌜ r ≡ noted change ⌝ }
 {
     if change == 0 {
@@ -254,7 +271,6 @@ pub fn after(b: Batch, r: Step) -> Batch
 {
     let mut a = b;
     let k = r.cursor;
-    let v = r.rec;
     a.cursor = k;
     if !is_noted(r.change) {
         return a;
@@ -262,7 +278,7 @@ pub fn after(b: Batch, r: Step) -> Batch
     a.free = r.free;
     if r.change == 1 {
         a.live = more(b.live);
-        a.used = plus(b.used, v.len);
+        a.used = plus(b.used, r.len);
         a.next = rise(b.next);
         return a;
     }

@@ -12,8 +12,8 @@ returns c =
 returns-2 : tie.Need-returns-2
 returns-2 c =
     let c5 = c .before .before .before .before .before in
-    let c9 = c5 .before .before .before .before in
-    undo-removed _ _ _ (c9 .if1 .left) (c5 .before .tree .ensures) (c5 .entry .ensures) (c .before .before .put-rec .ensures)
+    let c8 = c5 .before .before .before in
+    undo-removed _ _ _ (c8 .if1 .left) (c5 .before .tree .ensures) (c5 .entry .ensures) (c .before .before .put-rec .ensures)
 
 pub undo-one-spec : {M : Type 1} → statement M
 undo-one-spec =

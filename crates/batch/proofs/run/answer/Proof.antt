@@ -1,5 +1,4 @@
 -- `answer`: with the kind of the cursor.
-use mathlib.Core.Path.{refl}
 use borrow.Author.Needs.{needs}
 use Rattle.batch.specs.Work.{stepOf}
 use Rattle.batch.proofs.RunSteps.{answer-steps}
@@ -7,7 +6,8 @@ use Rattle.batch.proofs.run.answer.Statement.{statement}
 use Rattle.batch.proofs.run.answer.Tie as tie
 
 returns : tie.Need-returns
-returns c w = answer-steps _ _ (stepOf w _) refl (c .before .before .before .kind .ensures) (c .before .before .put-answer .ensures)
+returns c w = answer-steps _ _ (stepOf w _) (c .before .before .before .record-of .ensures) (c .before .before .before .before .kind .ensures)
+    (c .before .before .put-answer .ensures)
 
 pub answer-spec : {M : Type 1} → statement M
-answer-spec = tie.close (tie.spec (λ c κs. tt) (λ c κs. search needs) (λ c. search needs) returns)
+answer-spec = tie.close (tie.spec (λ c κs. tt) (λ c κs. tt) (λ c κs. search needs) (λ c. search needs) returns)

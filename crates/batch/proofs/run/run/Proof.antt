@@ -76,14 +76,14 @@ count-after-requires c κs =
 
 mul-es : tie.Need-mul-es Inv-loop μ-loop
 mul-es c =
-    let c24 = c .before .before .before .before .before .before .before .before .before .before .before .before .before .before .before .before .before .before .before .before .before .before .before .before in
-    record { fits = omega (arith, c24 .loop .inv .most, c24 .loop .inv .turns, c24 .loop .inv .changes) }
+    let c23 = c .before .before .before .before .before .before .before .before .before .before .before .before .before .before .before .before .before .before .before .before .before .before .before in
+    record { fits = omega (arith, c23 .loop .inv .most, c23 .loop .inv .turns, c23 .loop .inv .changes) }
 
 array-set-from-es : tie.Need-array-set-from-es Inv-loop μ-loop
 array-set-from-es c =
-    let c23 = c .before .before .before .before .before .before .before .before .before .before .before .before .before .before .before .before .before .before .before .before .before .before .before in
-    let c24 = c23 .before in
-    omega (arith, c24 .loop .inv .most, c24 .loop .inv .changes, c23 .loop-test .taken)
+    let c22 = c .before .before .before .before .before .before .before .before .before .before .before .before .before .before .before .before .before .before .before .before .before .before in
+    let c23 = c22 .before in
+    omega (arith, c23 .loop .inv .most, c23 .loop .inv .changes, c22 .loop-test .taken)
 
 array-copy-out-pick-2 : tie.Need-array-copy-out-pick-2 Inv-loop μ-loop
 array-copy-out-pick-2 c =
@@ -97,29 +97,29 @@ array-set-from-ts c =
 
 loop-less : tie.Need-loop-less Inv-loop μ-loop
 loop-less c =
-    let c25 = c .before .before .before .before .before .before .before .before .before .before .before .before .before .before .before .before .before .before .before .before .before .before .before .before .before in
-    omega (arith, c25 .loop-test .taken)
+    let c24 = c .before .before .before .before .before .before .before .before .before .before .before .before .before .before .before .before .before .before .before .before .before .before .before .before in
+    omega (arith, c24 .loop-test .taken)
 
 loop-again : tie.Need-loop-again Inv-loop μ-loop
 loop-again c =
     let c2 = c .before .before in
     let c3 = c2 .before in
-    let c6 = c3 .before .before .before in
+    let c5 = c3 .before .before in
+    let c6 = c5 .before in
     let c7 = c6 .before in
     let c8 = c7 .before in
-    let c9 = c8 .before in
-    let c12 = c9 .before .before .before in
-    let c16 = c12 .before .before .before .before in
-    let c18 = c16 .before .before in
-    let c19 = c18 .before in
-    let c24 = c19 .before .before .before .before .before in
+    let c11 = c8 .before .before .before in
+    let c15 = c11 .before .before .before .before in
+    let c17 = c15 .before .before in
+    let c18 = c17 .before in
+    let c23 = c18 .before .before .before .before .before in
+    let c24 = c23 .before in
     let c25 = c24 .before in
-    let c26 = c25 .before in
-    alter-noted (c26 .loop .inv) (c25 .loop-test .taken) (c24 .read-command .ensures) _ _ (sym (c19 .is-change .ensures) ∙ c18 .if1 .taken)
-    (c16 .alter .ensures) (c16 .alter .kept .0) (c12 .answer .ensures) (c12 .answer .kept .0) (c9 .count-after .ensures)
-    (after-set _ _ _ _ _ (sym (c7 .is-noted .ensures) ∙ c6 .if2 .taken) (stored-tree _ _ _ (c3 .table-place2 .ensures .0) (c .pick2 .ensures))
-    (c8 .after .ensures _))
-    (sym (c7 .is-noted .ensures) ∙ c6 .if2 .taken) (c2 .entry-of .ensures)
+    alter-noted (c25 .loop .inv) (c24 .loop-test .taken) (c23 .read-command .ensures) _ _ (sym (c18 .is-change .ensures) ∙ c17 .if1 .taken)
+    (c15 .alter .ensures) (c15 .alter .kept .0) (c11 .answer .ensures) (c11 .answer .kept .0) (c8 .count-after .ensures)
+    (after-set _ _ _ _ _ (sym (c6 .is-noted .ensures) ∙ c5 .if2 .taken) (stored-tree _ _ _ (c3 .table-place2 .ensures .0) (c .pick2 .ensures))
+    (c7 .after .ensures _))
+    (sym (c6 .is-noted .ensures) ∙ c5 .if2 .taken) (c2 .entry-of .ensures)
 
 loop-less-2 : tie.Need-loop-less-2 Inv-loop μ-loop
 loop-less-2 c =

@@ -17,10 +17,7 @@ fn main() {
     let archive = folder.join("libzimatuno.a");
     println!("cargo:rerun-if-changed={}", archive.display());
     if !archive.is_file() {
-        println!(
-            "cargo:warning={} is not there: `bindings/library` writes it",
-            archive.display()
-        );
+        println!("cargo:warning={} is not there: `bindings/library` writes it", archive.display());
     }
     println!("cargo:rustc-link-search=native={}", folder.display());
     println!("cargo:rustc-link-lib=static=zimatuno");

@@ -13,9 +13,9 @@ use Rattle.meaning.specs.Change.{freeSlot}
 use Rattle.meaning.specs.Sound.{sound}
 use Rattle.meaning.specs.Doors.{nCommands, batchOk, Outcome, carriedOut, batch}
 use Rattle.meaning.proofs.Clauses.{clauses}
-use Rattle.pool.specs.Rows.{unsound, judged}
-use Rattle.pool.proofs.CheckAnswers.{judged-ok}
-use Rattle.pool.specs.declared.check.Judged.{Judged}
+use Rattle.judge.specs.Rows.{unsound, judged}
+use Rattle.judge.proofs.CheckAnswers.{judged-ok}
+use Rattle.judge.specs.declared.verdict.Judged.{Judged}
 use Rattle.slots.specs.Head.{loadN, storeN}
 use Rattle.slots.specs.declared.head.Head.{Head}
 use Rattle.batch.specs.Run.{ranN}
@@ -62,12 +62,12 @@ module _ (p : List ℕ) {j : Judged} (e3 : j ≡ judged p) (h3 : not (j .ok) ≡
   is-sound : sound p ≡ true
   is-sound = sym (judged-ok p e3) ∙ not-false (j .ok) h3
 
-  trees-are : h .trees ≡ nTrees p
+  trees-are : h .numbers .trees ≡ nTrees p
   unfolding loadN nTrees
-  trees-are = ap (λ (x : Head). x .trees) e4
+  trees-are = ap (λ (x : Head). x .numbers .trees) e4
 
   -- Its records begin within it.
-  pub records-fit : 32 + 8 * h .trees ≤ length p
+  pub records-fit : 32 + 8 * h .numbers .trees ≤ length p
   records-fit = omega (arith, trees-are, clauses p is-sound .head .length-is)
 
   head-is : h ≡ loadN p (liveCount (read p)) (freeSlot (read p))
@@ -103,7 +103,7 @@ module _ (p w a : List ℕ) {t : Bool} (e1 : t ≡ batchOk w) where
       -- The commands carried out, and the head stored.
       module _ (h3 : not (j .ok) ≡ false) {h : Head} (e4 : h ≡ loadN p (j .live) (j .free)) where
         abbrev at : ℕ
-        at = 32 + 8 * h .trees
+        at = 32 + 8 * h .numbers .trees
 
         abbrev from : ℕ
         from = 16 + 24 * C
@@ -129,8 +129,8 @@ module _ (p w a : List ℕ) {t : Bool} (e1 : t ≡ batchOk w) where
 
         pub carried-out : Bytes p → Bytes w → {m o b : List ℕ} {g : Head}
             → _≡_ {A = List ℕ × (List ℕ × Head)} (m, (o, g))
-            (ranN C (take (length p - (32 + 8 * h .trees)) (drop (32 + 8 * h .trees) p)) w (take (length w - (16 + 24 * C)) (drop (16 + 24 * C) w)) a h)
-            → b ≡ storeN (take (32 + 8 * h .trees) p ++ (m ++ drop (length p - (32 + 8 * h .trees)) (drop (32 + 8 * h .trees) p))) g
+            (ranN C (take (length p - (32 + 8 * h .numbers .trees)) (drop (32 + 8 * h .numbers .trees) p)) w (take (length w - (16 + 24 * C)) (drop (16 + 24 * C) w)) a h)
+            → b ≡ storeN (take (32 + 8 * h .numbers .trees) p ++ (m ++ drop (length p - (32 + 8 * h .numbers .trees)) (drop (32 + 8 * h .numbers .trees) p))) g
             → record { code = 0; answered = C; pool = b; answers = o } ≡ batch p w a
         unfolding nCommands carriedOut
         carried-out pb wb {m} {o} {b} {g} ran stored =

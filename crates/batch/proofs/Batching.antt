@@ -17,7 +17,6 @@ use Rattle.meaning.specs.Pool.{Pool, liveCount, bytes, read, nTrees}
 use Rattle.meaning.specs.Sound.{sound}
 use Rattle.meaning.specs.Change.{freeSlot}
 use Rattle.meaning.specs.Cursor.{Command}
-use Rattle.meaning.specs.Command.{isOpen}
 use Rattle.meaning.specs.Doors.{nCommands, namesLength, batchOk, command, commands, run, begun, ended, batchRefusal, Outcome, carriedOut, batch}
 use Rattle.meaning.specs.WellFormed.{WellFormed}
 use Rattle.meaning.proofs.Facts.{facts}
@@ -32,11 +31,13 @@ use Rattle.slots.specs.Image.{bodyOf, headOf}
 use Rattle.slots.specs.declared.head.Head.{Head}
 use Rattle.slots.proofs.Opening.{body-read, load-read}
 use Rattle.slots.proofs.Closing.{store-image}
-use Rattle.batch.specs.Tests.{commandN, namedN}
-use Rattle.batch.specs.Run.{noEntry, begunN, ranN}
-use Rattle.batch.specs.Image.{markUsed, workIn, meantBy}
-use Rattle.batch.proofs.Agreeing.{shut}
-use Rattle.batch.proofs.Running.{Parts, meantParts, meantFrom, run-image}
+use Rattle.journal.specs.Journal.{noEntry}
+use Rattle.cursor.specs.Tests.{commandN, namedN}
+use Rattle.cursor.specs.Work.{begunN}
+use Rattle.ops.specs.Image.{markOf, workIn, meantBy}
+use Rattle.batch.specs.Run.{Ran, ranN}
+use Rattle.batch.proofs.Noting.{closed}
+use Rattle.batch.proofs.Running.{meantParts, meantFrom, run-image}
 
 -- ---- the commands of a batch
 
@@ -133,7 +134,7 @@ unfolding batchRefusal
 batch-done p b a h s u = batch-as p b a 0 (rw (h, le-ltb (length a) (24 * nCommands b) s, u) refl)
 
 -- what is left of pool and answers, from the head and the body
-abbrev stored : List ℕ → Parts → List ℕ × List ℕ
+abbrev stored : List ℕ → Ran → List ℕ × List ℕ
 stored front r = (storeN (front ++ r .0) (r .1 .1), r .1 .0)
 
 module _ (p b a : List ℕ) (pb : Bytes p) (bb : Bytes b) (h : batchOk b ≡ true) (s : 24 * nCommands b ≤ length a) (u : sound p ≡ true) where
@@ -142,12 +143,12 @@ module _ (p b a : List ℕ) (pb : Bytes p) (bb : Bytes b) (h : batchOk b ≡ tru
 
   -- the commands in turn from the pool that is read
   ran-image : ranN (nCommands b) (bodyOf (read p)) b names a (headOf (read p)) ≡ meantParts (begun (read p)) (commands b) [] (drop (24 * nCommands b) a)
-  unfolding ranN begunN begun workIn isOpen markUsed
+  unfolding ranN begunN begun workIn markOf
   ran-image =
       let C = nCommands b in
       let parsed = subst AllParsed (commands-are b h) (commands-parsed b bb) in
       run-image none (begun (read p)) (begun-good (read p) (sound-pool p pb u .0)) b names a [] C 0 0 (replicate 256 noEntry) (length-replicate 256 noEntry)
-      (omega arith) (omega (arith, order-is b h .0)) shut (λ i. parsed-at (λ j. meantBy names (commandN b j)) 0 C i parsed) refl s
+      (omega arith) (omega (arith, order-is b h .0)) closed (λ i. parsed-at (λ j. meantBy names (commandN b j)) 0 C i parsed) refl s
       ∙ ap (λ (cs : List Command). meantParts (begun (read p)) cs [] (drop (24 * C) a)) (sym (commands-are b h))
 
   -- the pool that is left

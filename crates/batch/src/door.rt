@@ -2,7 +2,14 @@
 ghost use mathlib.Core.Path.{_≡_};
 ghost use Rattle.meaning.specs.Doors.{batchOk, batch};
 use super::run::run;
-use pool::check::judge;
+use format::answer;
+use format::code;
+use format::command;
+use format::entry;
+use format::header;
+use format::limit;
+use format::test::both;
+use judge::verdict::judge;
 use slots::head::load;
 use slots::head::store;
 
@@ -22,24 +29,18 @@ fn refused(code: u8) -> Outcome
 fn batch_ok(w: &[u8]) -> bool
     ensures { λ r. ⌜ r ≡ batchOk (now (w .entry)) ⌝ }
 {
-    let count = fields::get_u16(w, 2) as usize;
-    let names = fields::get_u32(w, 12) as usize;
-    if fields::get_u16(w, 0) != 1 {
-        return false;
-    }
-    if 256 < count {
-        return false;
-    }
-    if fields::get_u32(w, 4) != 16 {
-        return false;
-    }
-    if fields::get_u32(w, 8) as usize != 16 + 24 * count {
-        return false;
-    }
-    if 16_384 < names {
-        return false;
-    }
-    w.len() == 16 + 24 * count + names
+    let edition = fields::get_u16(w, format::batch::EDITION);
+    let count = fields::get_u16(w, format::batch::COUNT) as usize;
+    let commands = fields::get_u32(w, format::batch::COMMANDS) as usize;
+    let names = fields::get_u32(w, format::batch::NAMES) as usize;
+    let len = fields::get_u32(w, format::batch::NAMES_LEN) as usize;
+    let end = format::batch::SIZE + command::SIZE * count;
+    let whole = both(len <= limit::NAMES_LEN as usize, w.len() == end + len);
+    let offsets = both(commands == format::batch::SIZE, both(names == end, whole));
+    both(
+        edition == limit::BATCH_EDITION,
+        both(count <= limit::COMMANDS as usize, offsets),
+    )
 }
 
 // Carries out the batch w on the pool and writes the answers. Checks BAD_BATCH, BAD_OUT and DAMAGED in
@@ -48,24 +49,24 @@ pub fn batch(pool: &mut [u8], w: &[u8], answers: &mut [u8]) -> Outcome
     ensures { λ r. ⌜ record { code = r .code; answered = r .answered; pool = now (pool .exit); answers = now (answers .exit) } ≡ batch (now (pool .entry)) (now (w .entry)) (now (answers .entry)) ⌝ }
 {
     if !batch_ok(w) {
-        return refused(2);
+        return refused(code::BAD_BATCH);
     }
-    let count = fields::get_u16(w, 2);
-    let names = 16 + 24 * (count as usize);
-    if answers.len() < 24 * (count as usize) {
-        return refused(3);
+    let count = fields::get_u16(w, format::batch::COUNT);
+    let names = format::batch::SIZE + command::SIZE * (count as usize);
+    if answers.len() < answer::SIZE * (count as usize) {
+        return refused(code::BAD_OUT);
     }
     let j = judge(pool);
     if !j.ok {
-        return refused(1);
+        return refused(code::DAMAGED);
     }
     let h = load(pool, j.live, j.free);
-    let at = 32 + 8 * (h.trees as usize);
+    let at = header::SIZE + entry::SIZE * (h.numbers.trees as usize);
     let end = pool.len();
     let g = run(&mut pool[at..end], w, &w[names..w.len()], answers, h, count);
     store(pool, g);
     Outcome {
-        code: 0,
+        code: code::DONE,
         answered: count,
     }
 }

@@ -1,27 +1,12 @@
 // Batch: the door that carries out a batch of commands, proved equal to `batch` of `meaning` on all
-// pools, batches and answer buffers, with no `requires`.
+// pools, batches and answer buffers, with no `requires`. Crate `ops` has the commands, `cursor` the state
+// that they share, `journal` what undoes them.
 //
-// | file       | what it does                                                                     |
-// |------------|----------------------------------------------------------------------------------|
-// | door.rt    | the door: header and length, answers, soundness; then the commands               |
-// | run.rt     | the commands in turn, the journal of a mark, and the rollback at the end         |
-// | perform.rt | one command, by its op                                                           |
-// | look.rt    | the ops that show a record: 2, 5 to 15                                           |
-// | remove.rt  | the ops that remove one: 3, 4, 21 to 23                                          |
-// | add.rt     | the ops that add one: 1, 16 to 20, 24, 25                                        |
-// | mark.rt    | mark, rollback, commit, reset: 26 to 29                                          |
-// | journal.rt | the changes since a mark, undone last first                                      |
-// | state.rt   | what a batch carries from command to command, and the ways in which one ends     |
-// | cursor.rt  | the one cursor, after entry.rs                                                   |
-// | command.rt | a command as it stands in a batch, and the tests that commands share             |
-mod add;
-mod command;
-mod cursor;
+// | file    | what it does                                                              |
+// |---------|---------------------------------------------------------------------------|
+// | door.rt | the door: header and length, answers, soundness; then the commands        |
+// | run.rt  | the commands in turn, the journal of a mark, and the rollback at the end  |
+// | turn.rt | what a turn of that loop does beside the command: tree, answer, journal   |
 pub mod door;
-mod journal;
-mod look;
-mod mark;
-mod perform;
-mod remove;
 mod run;
-mod state;
+mod turn;

@@ -1,6 +1,6 @@
 // Fields: little-endian numbers and parts at places of a lent byte slice.
 //
-// Every function is total and has no `requires`: a place that does not lie wholly within the slice
+// Every public function is total and has no `requires`: a place that does not lie wholly within the slice
 // reads as 0 or as empty, and a store there changes nothing. Each promise is an equation with a
 // definition of specs/Number.antt or specs/Part.antt.
 mod number;

@@ -1,40 +1,32 @@
 // Stores and reads at the limits of a slice of 16 bytes, and prints what is left: numbers of each
 // width, places that lie partly or wholly outside, a copy, zeros and the test for zeros. What it
 // prints is compared with the file `stdout` beside src/.
-use libc::STDOUT_FILENO;
-
-fn newline() {
-    io::write_all(STDOUT_FILENO, b"\n");
-}
+use console::print;
 
 // The bytes of `b` in hexadecimal, on a line.
 fn show(b: &[u8]) {
-    let mut i: usize = 0;
-    while i < b.len() {
-        io::print_hex(STDOUT_FILENO, fields::get_u8(b, i) as u64, 2);
-        i += 1;
-    }
-    newline();
+    print::hex_bytes(b);
+    print::newline();
 }
 
 // A number read, on a line.
 fn read(value: u64) {
-    io::print_hex(STDOUT_FILENO, value, 1);
-    newline();
+    print::hex(value, 1);
+    print::newline();
 }
 
 // A test's answer, on a line.
 fn answer(yes: bool) {
     if yes {
-        io::write_all(STDOUT_FILENO, b"zero\n");
+        print::text(b"zero\n");
         return;
     }
-    io::write_all(STDOUT_FILENO, b"not zero\n");
+    print::text(b"not zero\n");
 }
 
 // A number of each width.
 fn numbers(b: &mut [u8]) {
-    io::write_all(STDOUT_FILENO, b"numbers\n");
+    print::text(b"numbers\n");
     fields::put_u64(b, 0, 0x0102030405060708);
     fields::put_u32(b, 8, 0x090a0b0c);
     fields::put_u16(b, 12, 0x0d0e);
@@ -56,7 +48,7 @@ fn last_places(b: &[u8]) {
 
 // Stores that do not lie wholly within: none changes a byte.
 fn outside(b: &mut [u8]) {
-    io::write_all(STDOUT_FILENO, b"outside\n");
+    print::text(b"outside\n");
     fields::put_u64(b, 9, 0xffff_ffff_ffff_ffff);
     fields::put_u32(b, 13, 0xffff_ffff);
     fields::put_u16(b, 0xffff_ffff_ffff_ffff, 0xffff);
@@ -68,7 +60,7 @@ fn outside(b: &mut [u8]) {
 
 // A copy, zeros over some of it, and the test for zeros over words, single bytes and outside.
 fn parts(b: &mut [u8]) {
-    io::write_all(STDOUT_FILENO, b"parts\n");
+    print::text(b"parts\n");
     fields::copy_in(b, 13, b"abc");
     fields::zero_out(b, 2, 12);
     show(b);

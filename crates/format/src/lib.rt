@@ -3,7 +3,7 @@
 // part that it is in.
 pub mod test;
 
-// The header of a pool. TABLE, RECORDS and TEXT are the offsets of what follows it.
+// The header of a pool. The fields TABLE, RECORDS and TEXT hold the offsets of what follows it.
 pub mod header {
     pub const EDITION: usize = 0;
 
@@ -61,7 +61,25 @@ pub mod record {
     pub const SIZE: usize = 32;
 }
 
-// The header of a batch. COMMANDS and NAMES are the offsets of what follows it.
+// The links of a record as offsets of one byte, which no sum with a slot's place takes out of range.
+pub mod link {
+    pub const LEFT: u8 = super::record::LEFT as u8;
+
+    pub const RIGHT: u8 = super::record::RIGHT as u8;
+
+    pub const PARENT: u8 = super::record::PARENT as u8;
+}
+
+// A record's balance: no side is higher, or which.
+pub mod balance {
+    pub const EVEN: u8 = 0;
+
+    pub const RIGHT: u8 = 1;
+
+    pub const LEFT: u8 = 2;
+}
+
+// The header of a batch. The fields COMMANDS and NAMES hold the offsets of what follows it.
 pub mod batch {
     pub const EDITION: usize = 0;
 
@@ -123,6 +141,8 @@ pub mod limit {
     pub const SLOTS: u32 = 1_024;
 
     pub const TREES: u32 = 8;
+    // the number of the last tree that there can be
+    pub const LAST_TREE: u8 = 8;
 
     pub const TEXT_SIZE: u32 = 8_192;
 

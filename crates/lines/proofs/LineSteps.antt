@@ -24,30 +24,30 @@ abbrev word : List ℕ
 word = 112 ∷ 111 ∷ 111 ∷ 108 ∷ 32 ∷ []
 
 abbrev sizes : Head → List ℕ
-sizes h = fields (h .slots ∷ h .trees ∷ h .live ∷ h .used ∷ [])
+sizes h = let n = h .numbers in fields (n .slots ∷ n .trees ∷ n .live ∷ n .used ∷ [])
 
 module _ (o : List ℕ) (at : ℕ) (h : Head) (r : at + length (firstN h) ≤ length o) where
-  first-is : firstN h ≡ word ++ (sizes h ++ field (h .next) 10)
+  first-is : firstN h ≡ word ++ (sizes h ++ field (h .numbers .next) 10)
   unfolding firstN
   first-is = refl
 
   -- The word fits.
   pub word-fits : at + 5 ≤ length o
-  word-fits = one-fits o at (firstN h) word (sizes h) (field (h .next) 10) first-is r
+  word-fits = one-fits o at (firstN h) word (sizes h) (field (h .numbers .next) 10) first-is r
 
   module _ {o₁ : List ℕ} {at₁ : ℕ} (f : (o₁, at₁) ≡ wrote o at word) where
     -- The sizes fit.
     pub sizes-fit : at₁ + length (sizes h) ≤ length o₁
-    sizes-fit = two-fits o at (firstN h) word (sizes h) (field (h .next) 10) first-is r f
+    sizes-fit = two-fits o at (firstN h) word (sizes h) (field (h .numbers .next) 10) first-is r f
 
     module _ {o₂ : List ℕ} {at₂ : ℕ} (g : (o₂, at₂) ≡ wrote o₁ at₁ (sizes h)) where
       -- The next stamp fits.
-      pub stamp-fits : at₂ + length (field (h .next) 10) ≤ length o₂
-      stamp-fits = three-fits o at (firstN h) word (sizes h) (field (h .next) 10) first-is r f g
+      pub stamp-fits : at₂ + length (field (h .numbers .next) 10) ≤ length o₂
+      stamp-fits = three-fits o at (firstN h) word (sizes h) (field (h .numbers .next) 10) first-is r f g
 
       -- The line is written.
-      pub first-wrote : {q : List ℕ × ℕ} → q ≡ wrote o₂ at₂ (field (h .next) 10) → q ≡ wrote o at (firstN h)
-      first-wrote k = three-wrote o at (firstN h) word (sizes h) (field (h .next) 10) first-is r f g k
+      pub first-wrote : {q : List ℕ × ℕ} → q ≡ wrote o₂ at₂ (field (h .numbers .next) 10) → q ≡ wrote o at (firstN h)
+      first-wrote k = three-wrote o at (firstN h) word (sizes h) (field (h .numbers .next) 10) first-is r f g k
 
 -- ---- a record's line
 
@@ -125,25 +125,25 @@ tree-room o at m N t v e r = subst (λ (l : List ℕ). at + length l ≤ length 
 -- ---- the trees
 
 module _ (m : List ℕ) (h : Head) (t : ℕ) where
-  trees-next : t < 9 → treesN (9 - t) m h t ≡ treeLinesN m (h .slots) t (treeN (h .table) t) ++ treesN (9 - (t + 1)) m h (t + 1)
+  trees-next : t ≤ 8 → treesN (9 - t) m h t ≡ treeLinesN m (h .numbers .slots) t (treeN (h .table) t) ++ treesN (9 - (t + 1)) m h (t + 1)
   unfolding treesN
   trees-next l = let e : 9 - t ≡ suc (9 - (t + 1)) = omega arith in ap (λ (j : ℕ). treesN j m h t) e
 
   module _ {o₀ : List ℕ} {at₀ : ℕ} {text o : List ℕ} {at : ℕ} (w : Writing o₀ at₀ text o at (treesN (9 - t) m h t)) where
-    module _ (l : t < 9) {v : AvlTree} (e : v ≡ treeN (h .table) t) where
-      next-tree : Writing o₀ at₀ text o at (treeLinesN m (h .slots) t v ++ treesN (9 - (t + 1)) m h (t + 1))
+    module _ (l : t ≤ 8) {v : AvlTree} (e : v ≡ treeN (h .table) t) where
+      next-tree : Writing o₀ at₀ text o at (treeLinesN m (h .numbers .slots) t v ++ treesN (9 - (t + 1)) m h (t + 1))
       next-tree =
-          writing-as _ (trees-next l ∙ ap (λ (u : AvlTree). treeLinesN m (h .slots) t u ++ treesN (9 - (t + 1)) m h (t + 1)) (sym e)) w
+          writing-as _ (trees-next l ∙ ap (λ (u : AvlTree). treeLinesN m (h .numbers .slots) t u ++ treesN (9 - (t + 1)) m h (t + 1)) (sym e)) w
 
       -- The next tree fits.
-      pub tree-fits : at + length (treeLinesN m (h .slots) t v) ≤ length o
-      tree-fits = writing-fits (treeLinesN m (h .slots) t v) (treesN (9 - (t + 1)) m h (t + 1)) next-tree
+      pub tree-fits : at + length (treeLinesN m (h .numbers .slots) t v) ≤ length o
+      tree-fits = writing-fits (treeLinesN m (h .numbers .slots) t v) (treesN (9 - (t + 1)) m h (t + 1)) next-tree
 
       -- It is written.
-      pub tree-turn : {o₁ : List ℕ} {at₁ : ℕ} → (o₁, at₁) ≡ wrote o at (treeLinesN m (h .slots) t v) → Writing o₀ at₀ text o₁ at₁ (treesN (9 - (t + 1)) m h (t + 1))
-      tree-turn f = writing-step (treeLinesN m (h .slots) t v) (treesN (9 - (t + 1)) m h (t + 1)) next-tree f
+      pub tree-turn : {o₁ : List ℕ} {at₁ : ℕ} → (o₁, at₁) ≡ wrote o at (treeLinesN m (h .numbers .slots) t v) → Writing o₀ at₀ text o₁ at₁ (treesN (9 - (t + 1)) m h (t + 1))
+      tree-turn f = writing-step (treeLinesN m (h .numbers .slots) t v) (treesN (9 - (t + 1)) m h (t + 1)) next-tree f
 
     -- No tree is left.
-    pub trees-end : 9 ≤ t → (o, at) ≡ wrote o₀ at₀ text
+    pub trees-end : 8 < t → (o, at) ≡ wrote o₀ at₀ text
     unfolding treesN
     trees-end l = let e : 9 - t ≡ 0 = omega arith in writing-end (writing-as [] (ap (λ (j : ℕ). treesN j m h t) e) w)

@@ -3,7 +3,7 @@
 use mathlib.Core.Bool.{true}
 use mathlib.Core.List.{List, [], _∷_, _++_, map, append-assoc, append-nil}
 use mathlib.Core.Path.{_≡_, refl, sym, ap, ap₂, _∙_, subst}
-use Prim.Native.Nat.{ℕ, zero, suc, _+_, _*_, _-_, _≤_, _<_}
+use Prim.Native.Nat.{ℕ, zero, suc, _+_, _*_, _≤_, _<_}
 use native.Mathlib.Decide.{decLt}
 use native.Mathlib.Omega.{arith}
 use lib.Dec.{eqb, eqb·suc-zero}
@@ -123,7 +123,7 @@ module _ (p : Pool) (v : WellFormed p) where
 
   -- a tree of the pool, and those behind it
   here-printed : (i : ℕ) → i < length (p .trees) → {rest : List ℕ} → rest ≡ treeLines p (suc (i + 1)) (drop (i + 1) (p .trees))
-      → treeLinesN (bodyOf p) (headOf p .slots) (i + 1) (treeN (headOf p .table) (i + 1)) ++ rest ≡ treeLines p (suc i) (drop i (p .trees))
+      → treeLinesN (bodyOf p) (headOf p .numbers .slots) (i + 1) (treeN (headOf p .table) (i + 1)) ++ rest ≡ treeLines p (suc i) (drop i (p .trees))
   unfolding treeLines headOf treeAt at
   here-printed i h later =
       let s : i + 1 ≡ suc i = omega arith in
@@ -133,11 +133,11 @@ module _ (p : Pool) (v : WellFormed p) where
 
   -- no tree of the pool, and none behind it
   none-printed : (i : ℕ) → i < 8 → length (p .trees) ≤ i → {rest : List ℕ} → rest ≡ treeLines p (suc (i + 1)) (drop (i + 1) (p .trees))
-      → treeLinesN (bodyOf p) (headOf p .slots) (i + 1) (treeN (headOf p .table) (i + 1)) ++ rest ≡ treeLines p (suc i) (drop i (p .trees))
+      → treeLinesN (bodyOf p) (headOf p .numbers .slots) (i + 1) (treeN (headOf p .table) (i + 1)) ++ rest ≡ treeLines p (suc i) (drop i (p .trees))
   unfolding treeLines treeLinesN linesN
   none-printed i h past later =
       let after : length (p .trees) ≤ i + 1 = omega arith in
-      ap₂ _++_ (ap (treeLinesN (bodyOf p) (headOf p .slots) (i + 1)) (no-tree i h past))
+      ap₂ _++_ (ap (treeLinesN (bodyOf p) (headOf p .numbers .slots) (i + 1)) (no-tree i h past))
       (later ∙ ap (treeLines p (suc (i + 1))) (drop-of-length-le (p .trees) after))
       ∙ sym (ap (treeLines p (suc i)) (drop-of-length-le (p .trees) past))
 
@@ -152,7 +152,7 @@ module _ (p : Pool) (v : WellFormed p) where
       m = bodyOf p
 
       go : Dec (i < length (p .trees)) → treesN k m (headOf p) (i + 1 + 1) ≡ treeLines p (suc (i + 1)) (drop (i + 1) (p .trees))
-          → treeLinesN m (headOf p .slots) (i + 1) (treeN (headOf p .table) (i + 1)) ++ treesN k m (headOf p) (i + 1 + 1) ≡ treeLines p (suc i) (drop i (p .trees))
+          → treeLinesN m (headOf p .numbers .slots) (i + 1) (treeN (headOf p .table) (i + 1)) ++ treesN k m (headOf p) (i + 1 + 1) ≡ treeLines p (suc i) (drop i (p .trees))
       go (yes h) later = here-printed i h later
       go (no h) later = none-printed i (omega arith) (omega arith) later
 

@@ -16,27 +16,33 @@ use Rattle.fields.proofs.Parts.{length-splice}
 use Rattle.meaning.specs.Pool.{nTrees, liveCount, read}
 use Rattle.meaning.specs.Change.{freeSlot}
 use Rattle.meaning.specs.Sound.{sound}
-use Rattle.meaning.specs.Listing.{treeLines, firstLine, listing}
+use Rattle.meaning.specs.Listing.{decimal, treeLines, firstLine, listing}
 use Rattle.meaning.proofs.Clauses.{clauses}
 use Rattle.meaning.proofs.Pools.{sound-pool}
-use Rattle.pool.specs.Rows.{unsound, judged}
-use Rattle.pool.specs.declared.check.Judged.{Judged}
+use Rattle.judge.specs.Rows.{unsound, judged}
+use Rattle.judge.specs.declared.verdict.Judged.{Judged}
 use Rattle.slots.specs.Head.{loadN}
 use Rattle.slots.specs.Image.{bodyOf, headOf}
 use Rattle.slots.specs.declared.head.Head.{Head}
 use Rattle.slots.proofs.Opening.{body-read, load-read}
-use Rattle.lines.specs.Text.{wrote}
+use Rattle.lines.specs.Text.{wrote, field}
 use Rattle.lines.specs.Line.{firstN, treesN}
 use Rattle.lines.specs.Listed.{listed}
 use Rattle.lines.proofs.Writing.{first-fits, second-fits, both-wrote}
 use Rattle.lines.proofs.Printed.{first-printed, trees-printed}
 use Rattle.lines.proofs.Bounds.{text-short}
 
-abbrev refusal : List ℕ
-refusal = 114 ∷ 101 ∷ 102 ∷ 117 ∷ 115 ∷ 101 ∷ 100 ∷ 32 ∷ 49 ∷ 10 ∷ []
+-- "refused "
+abbrev word : List ℕ
+word = 114 ∷ 101 ∷ 102 ∷ 117 ∷ 115 ∷ 101 ∷ 100 ∷ 32 ∷ []
 
-listing-refused : (b : List ℕ) → sound b ≡ false → listing b ≡ refusal
-unfolding listing
+-- the number behind it, with its newline
+number-long : length (field 1 10) ≡ 2
+unfolding field decimal
+number-long = refl
+
+listing-refused : (b : List ℕ) → sound b ≡ false → listing b ≡ word ++ field 1 10
+unfolding listing field decimal
 listing-refused b s = simp s
 
 listing-sound : (b : List ℕ) → sound b ≡ true → listing b ≡ firstLine (read b) ++ treeLines (read b) 1 (read b .trees)
@@ -49,7 +55,7 @@ listing-short b a = go (sound b) refl
   where
     go : (c : Bool) → sound b ≡ c → length (listing b) ≤ 655_360
     go true s = subst (λ (l : List ℕ). length l ≤ 655_360) (sym (listing-sound b s)) (text-short (read b) (sound-pool b a s .0))
-    go false s = subst (λ (l : List ℕ). length l ≤ 655_360) (sym (listing-refused b s)) (omega arith)
+    go false s = subst (λ (l : List ℕ). length l ≤ 655_360) (sym (listing-refused b s)) (omega (arith, number-long))
 
 -- The elements of a slice of u8 are bytes.
 pub all-bytes : (b : List ℕ) → ((i : ℕ) → Fits w8 (getD b i 0)) → Bytes b
@@ -97,9 +103,19 @@ unfolding judged
 judged-sound b s = simp s
 
 module _ (b o : List ℕ) (big : 655_360 ≤ length o) {j : Judged} (je : j ≡ judged b) where
-  -- The pool is refused.
-  pub listed-refused : not (j .ok) ≡ true → {q : List ℕ × ℕ} → q ≡ wrote o 0 refusal → q ≡ listed b o
-  listed-refused h e = e ∙ ap (wrote o 0) (sym (listing-refused b (sym (judged-ok b je) ∙ not-true _ h))) ∙ listed-wrote b o big
+  -- The pool is refused: the number fits behind the word, and both are written.
+  module _ (jh : not (j .ok) ≡ true) {o₁ : List ℕ} {at₁ : ℕ} (f : (o₁, at₁) ≡ wrote o 0 word) where
+    refused-is : listing b ≡ word ++ field 1 10
+    refused-is = listing-refused b (sym (judged-ok b je) ∙ not-true _ jh)
+
+    refused-room : 0 + length (listing b) ≤ length o
+    refused-room = omega (arith, ap length refused-is, number-long)
+
+    pub number-room : at₁ + length (field 1 10) ≤ length o₁
+    number-room = second-fits o 0 (listing b) word (field 1 10) refused-is refused-room f
+
+    pub listed-refused : {q : List ℕ × ℕ} → q ≡ wrote o₁ at₁ (field 1 10) → q ≡ listed b o
+    listed-refused g = both-wrote o 0 (listing b) word (field 1 10) refused-is refused-room f g ∙ listed-wrote b o big
 
   -- The pool is sound.
   module _ (jh : not (j .ok) ≡ false) where
@@ -107,16 +123,16 @@ module _ (b o : List ℕ) (big : 655_360 ≤ length o) {j : Judged} (je : j ≡ 
     is-sound = sym (judged-ok b je) ∙ not-false _ jh
 
     module _ {h : Head} (he : h ≡ loadN b (j .live) (j .free)) where
-      trees-are : h .trees ≡ nTrees b
+      trees-are : h .numbers .trees ≡ nTrees b
       unfolding loadN nTrees
-      trees-are = ap (λ (y : Head). y .trees) he
+      trees-are = ap (λ (y : Head). y .numbers .trees) he
 
       -- Its header and its tree entries lie within it.
-      pub body-inside : 32 + 8 * h .trees ≤ length b
+      pub body-inside : 32 + 8 * h .numbers .trees ≤ length b
       body-inside = omega (arith, trees-are, clauses b is-sound .head .length-is)
 
       abbrev start : ℕ
-      start = 32 + 8 * h .trees
+      start = 32 + 8 * h .numbers .trees
 
       abbrev body : List ℕ
       body = take (length b - start) (drop start b)

@@ -15,7 +15,7 @@ use Rattle.lines.specs.Text.{field, fields}
 
 -- N, T, live records, text used, next stamp
 unfoldable pub firstN : Head → List ℕ
-firstN h = (112 ∷ 111 ∷ 111 ∷ 108 ∷ 32 ∷ []) ++ (fields (h .slots ∷ h .trees ∷ h .live ∷ h .used ∷ []) ++ field (h .next) 10)
+firstN h = let n = h .numbers in (112 ∷ 111 ∷ 111 ∷ 108 ∷ 32 ∷ []) ++ (fields (n .slots ∷ n .trees ∷ n .live ∷ n .used ∷ []) ++ field (n .next) 10)
 
 -- the line of slot x, whose fields are v, in tree t of a pool of N slots
 unfoldable pub lineOfN : List ℕ → ℕ → ℕ → ℕ → Record → List ℕ
@@ -37,4 +37,4 @@ treeLinesN m N t v = linesN (v .count) m N t (bottomN 14 m (v .root) left)
 -- the lines of so many trees, from tree t on
 unfoldable pub treesN : ℕ → List ℕ → Head → ℕ → List ℕ
 treesN zero m h t = []
-treesN (suc k) m h t = treeLinesN m (h .slots) t (treeN (h .table) t) ++ treesN k m h (t + 1)
+treesN (suc k) m h t = treeLinesN m (h .numbers .slots) t (treeN (h .table) t) ++ treesN k m h (t + 1)

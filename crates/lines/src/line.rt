@@ -23,10 +23,11 @@ pub fn put_first(out: &mut [u8], at: usize, h: Head) -> usize
     requires { ⌜ at + length (firstN h) ≤ length (now out) ⌝ }
     ensures { λ r. ⌜ (now (out .exit), r) ≡ wrote (now (out .entry)) at (firstN h) ⌝ }
 {
-    let ns = [h.slots as u64, h.trees as u64, h.live as u64, h.used as u64];
+    let n = h.numbers;
+    let ns = [n.slots as u64, n.trees as u64, n.live as u64, n.used as u64];
     let word = put_text(out, at, b"pool ");
     let sizes = put_fields(out, word, &ns);
-    put_field(out, sizes, h.next as u64, b'\n')
+    put_field(out, sizes, n.next as u64, b'\n')
 }
 
 // Tree, key, slot, stamp, parent slot, balance and name of slot x, which is in tree t.
@@ -44,7 +45,7 @@ fn put_line(out: &mut [u8], at: usize, body: &[u8], slots: u16, t: u8, x: u16) -
         get_balance(body, x) as u64,
     ];
     let numbers = put_fields(out, at, &ns);
-    let start = 32 * (slots as usize) + v.start as usize;
+    let start = format::record::SIZE * (slots as usize) + v.start as usize;
     let name = put_name(out, numbers, body, start, v.len as usize);
     put_byte(out, name, b'\n')
 }
@@ -73,8 +74,8 @@ pub fn put_trees(out: &mut [u8], at: usize, body: &[u8], h: Head) -> usize
 {
     let mut next = at;
     let mut t: u8 = 1;
-    while t < 9 {
-        next = put_tree(out, next, body, h.slots, t, h.tree(t));
+    while t <= format::limit::LAST_TREE {
+        next = put_tree(out, next, body, h.numbers.slots, t, h.tree(t));
         t += 1;
     }
     next

@@ -34,18 +34,21 @@ fn put_decimal(out: &mut [u8], at: usize, digits: u8, n: u64) -> usize
         return at;
     }
     if n < 10 {
-        return put_byte(out, at, 48 + n as u8);
+        return put_byte(out, at, b'0' + n as u8);
     }
     let next = put_decimal(out, at, digits - 1, n / 10);
-    put_byte(out, next, 48 + (n % 10) as u8)
+    put_byte(out, next, b'0' + (n % 10) as u8)
 }
+
+// The digits of the largest number.
+const DIGITS: u8 = 20;
 
 // A number and the byte `end`.
 pub fn put_field(out: &mut [u8], at: usize, n: u64, end: u8) -> usize
     requires { ⌜ at + length (field n end) ≤ length (now out) ⌝ }
     ensures { λ r. ⌜ (now (out .exit), r) ≡ wrote (now (out .entry)) at (field n end) ⌝ }
 {
-    let next = put_decimal(out, at, 20, n);
+    let next = put_decimal(out, at, DIGITS, n);
     put_byte(out, next, end)
 }
 
@@ -63,15 +66,18 @@ pub fn put_fields(out: &mut [u8], at: usize, ns: &[u64]) -> usize
     next
 }
 
+// What the digits from 10 on lack of the letters from `a` on.
+const LETTERS: u8 = b'a' - 10;
+
 // A digit below 16, in lower case.
 fn hex_digit(n: u8) -> u8
     requires { ⌜ n < 16 ⌝ }
     ensures { λ r. ⌜ r ≡ hexDigit n ⌝ }
 {
     if n < 10 {
-        return 48 + n;
+        return b'0' + n;
     }
-    87 + n
+    LETTERS + n
 }
 
 // Bytes in hexadecimal.

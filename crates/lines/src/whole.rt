@@ -3,8 +3,9 @@ ghost use mathlib.Core.Path.{_≡_};
 ghost use Rattle.lines.specs.Listed.{listed};
 use super::line::put_first;
 use super::line::put_trees;
+use super::text::put_field;
 use super::text::put_text;
-use pool::check::judge;
+use judge::verdict::judge;
 use slots::head::load;
 
 // Every listing fits in so many bytes: 1,024 lines of at most 638, and a first one of at most 111.
@@ -20,10 +21,11 @@ pub fn listing(pool: &[u8], out: &mut [u8]) -> usize
     }
     let j = judge(pool);
     if !j.ok {
-        return put_text(out, 0, b"refused 1\n");
+        let word = put_text(out, 0, b"refused ");
+        return put_field(out, word, format::code::DAMAGED as u64, b'\n');
     }
     let h = load(pool, j.live, j.free);
-    let at = 32 + 8 * h.trees as usize;
+    let at = format::header::SIZE + format::entry::SIZE * h.numbers.trees as usize;
     let body = &pool[at..];
     let next = put_first(out, 0, h);
     put_trees(out, next, body, h)

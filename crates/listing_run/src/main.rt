@@ -1,29 +1,16 @@
 // The listings of several pools, which stand one behind the other in the standard input: a length of
 // four bytes, then as many bytes. What it prints is compared with the file `stdout` beside src/, which
 // tools/pools.py works out from the layout alone.
-ghost use mathlib.Core.Path.{_≡_};
-ghost use lib.ListN.{length};
-use libc::STDIN_FILENO;
-use libc::STDOUT_FILENO;
+use console::print;
+use console::read;
+use console::space;
+use lines::listing;
 
-// A buffer that every listing fits in.
-fn room() -> [u8; 655_360]
-    ensures { λ r. ⌜ 655_360 ≡ length r ⌝ }
-{
-    [0; 655_360]
-}
-
-// The number of a case, on a line.
-fn title(number: u64) {
-    io::write_all(STDOUT_FILENO, b"case ");
-    io::print_decimal(STDOUT_FILENO, number);
-    io::write_all(STDOUT_FILENO, b"\n");
-}
-
-// Prints the listing of a pool, by way of `text`.
-fn show(pool: &[u8], text: &mut [u8]) {
-    let n = lines::listing(pool, text);
-    io::write_all(STDOUT_FILENO, &text[..n]);
+// Prints the number of a case and the listing of its pool, by way of `text`.
+fn show(number: u64, pool: &[u8], text: &mut [u8]) {
+    print::number_line(b"case ", number);
+    let n = listing(pool, text);
+    print::first(n, text);
 }
 
 // The cases of the input, of which there are fewer than 100.
@@ -40,16 +27,15 @@ fn show_all(input: &[u8], text: &mut [u8]) {
             return;
         }
         let end = from + size;
-        title(number);
-        show(&input[from..end], text);
+        show(number, &input[from..end], text);
         at = end;
         number += 1;
     }
 }
 
 fn main() {
-    let mut space = io::large_buffer();
-    let mut text = room();
-    let n = io::read_full(STDIN_FILENO, &mut space);
-    show_all(&space[..n], &mut text);
+    let mut input = space::input();
+    let mut text = space::text();
+    let n = read::all(&mut input);
+    show_all(&input[..n], &mut text);
 }

@@ -1,13 +1,13 @@
 -- The ops that add: what one that is not refused may rely on. Its key is new in its tree, in one of four ways. Assumes nothing.
-use mathlib.Core.Bool.{Bool, true, false, not, _&&_, _||_, cond}
+use mathlib.Core.Bool.{true, false, not, _&&_, cond}
 use mathlib.Core.List.{List, [], _∷_}
 use mathlib.Core.Option.{Option}
 use mathlib.Core.Path.{_≡_, refl, sym, ap, subst}
 use Prim.Native.Nat.{ℕ, _+_, _≤_}
 use native.Mathlib.Omega.{arith}
-use lib.Dec.{leb, eqb}
+use lib.Dec.{eqb}
 use lib.ListN.{length}
-use borrow.Author.Tests.{leb-true, ltb-false, eqb-true, eqb-false, not-false}
+use borrow.Author.Tests.{ltb-false, eqb-true, eqb-false, not-false}
 use Rattle.avl.specs.Tree.{Dir, left, right, flip, pick, top, list}
 use Rattle.avl.specs.Search.{Spot, get}
 use Rattle.avl.specs.Order.{nil, more, first}
@@ -17,13 +17,13 @@ use Rattle.meaning.specs.Change.{freeSlot}
 use Rattle.meaning.specs.Cursor.{Command, Cursor, nowhere, occupied, vacant, firstEntry, lastEntry, State, kind, cursorTree, standing, entryKey, treeOf, withKey, nextOf, nextOfCursor}
 use Rattle.meaning.specs.Command.{badTree, notAtRecord, notKind, badName, present, past, notBetween, isOther, notTheEntrys, noSlot, noText, noStamp, among, adding, refusal}
 use Rattle.meaning.specs.WellFormed.{WellFormed}
-use Rattle.meaning.proofs.Facts.{both, every-span}
+use Rattle.meaning.proofs.Facts.{both}
 use Rattle.meaning.proofs.Good.{NewKey, Addable, CursorOk, at-nowhere, at-occupied, at-vacant, at-first, at-last, GoodState, Parsed}
 use Rattle.meaning.proofs.Members.{Lives}
 use Rattle.meaning.proofs.Clauses.{within-is}
 use Rattle.meaning.proofs.Cursors.{lives-tree, standing-lives, standing-next}
 use Rattle.meaning.proofs.NewKeys.{unfound-new, between-new, end-new}
-use Rattle.meaning.proofs.Tables.{never, Passed, passed, tree-is, known, at-op}
+use Rattle.meaning.proofs.Tables.{never, Passed, passed, tree-is, at-ops}
 
 -- ---- the tests, as facts
 
@@ -127,18 +127,8 @@ at-entry p (lastEntry t x) key good (at-last low high i) h = never refl h
 
 -- ---- the ops that add
 
-abbrev adders : List ℕ
+abbrev pub adders : List ℕ
 adders = 1 ∷ 16 ∷ 17 ∷ 18 ∷ 19 ∷ 20 ∷ 24 ∷ 25 ∷ []
-
-adder : (n : ℕ) → 1 ≤ n → n ≤ 29 → adding n ≡ true → 1 ≤ count (eqb n) adders
-unfolding adding among within every span count
-adder n low high h =
-    let f = every-span (λ n. not (adding n) || leb 1 (count (eqb n) adders)) 1 29 n low (omega arith) refl in
-    leb-true 1 (count (eqb n) adders) (go (adding n) (leb 1 (count (eqb n) adders)) h f)
-  where
-    go : (a b : Bool) → a ≡ true → (not a || b) ≡ true → b ≡ true
-    go true b h k = k
-    go false b h k = never h refl
 
 placed : {n : ℕ} {s : State} {c : Command} → Passed n s c → Open (s .pool) (cond (within 1 11 n) (c .tree) (cursorTree (s .cursor))) (c .key)
     → Open (s .pool) (treeOf s c) (c .key)
@@ -147,13 +137,12 @@ placed {s = s} {c = c} t o = subst (λ (u : ℕ). Open (s .pool) u (c .key)) (sy
 -- The tree of a command that adds has no record with its key.
 pub adding-open : (w : Option Pool) (s : State) (c : Command) → GoodState w s → adding (c .op) ≡ true → refusal s c ≡ 0
     → Open (s .pool) (treeOf s c) (c .key)
-unfolding among within notTheEntrys
+unfolding adding among within every count span notTheEntrys
 adding-open w s c g h z =
-    let k = known s c z in
     let G = g .pool in
     let C = g .cursor in
     let P : ℕ → Type 0 = λ n. Open (s .pool) (treeOf s c) (c .key) in
-    at-op P adders s c z (adder (c .op) (k .0) (k .1) h)
+    at-ops P adding adders refl s c z h
     (more (λ t. placed t (by-search s c G (t .tree-good refl) (t .key-absent refl)))
     (more (λ t. placed t (beside left s c G C (t .at-record refl) (t .key-before refl)))
     (more (λ t. placed t (beside right s c G C (t .at-record refl) (t .key-behind refl)))

@@ -6,7 +6,7 @@ use mathlib.Core.Path.{_≡_, refl, sym, ap, _∙_}
 use Prim.Native.Nat.{ℕ, zero, suc, _≤_, _<_}
 use native.Mathlib.Omega.{arith}
 use lib.Dec.{leb, eqb}
-use lib.ListN.{length, take, getD}
+use lib.ListN.{length, take}
 use borrow.Author.Tests.{eqb-true, eq-eqb, le-leb, not-true}
 use Rattle.avl.specs.Tree.{left, right}
 use Rattle.avl.specs.Order.{All, nil, more}
@@ -16,17 +16,9 @@ use Rattle.meaning.specs.Command.{Test, always, badTree, noCursor, notAt
 use Rattle.meaning.proofs.Clauses.{within-is}
 use Rattle.meaning.proofs.Determined.{_exactly-if_}
 use Rattle.meaning.proofs.Facts.{both, both-true, every-span}
-use Rattle.meaning.proofs.Tables.{never}
+use Rattle.meaning.proofs.Tables.{never, rowIn, everyOp}
 
 -- ---- the first row that applies
-
--- a row beyond the table, which refuses nothing
-abbrev noRow : Refusal
-noRow = refuse 0 at (λ _. false) if always
-
--- row i of a table, counted from 0
-unfoldable pub rowIn : List Refusal → ℕ → Refusal
-rowIn rs i = getD rs i noRow
 
 -- a row applies at op o: the op is among those that it names, and its condition holds
 unfoldable pub applies : ℕ → State → Command → Refusal → Bool
@@ -89,7 +81,7 @@ pub record RefusesOneOf (lo hi : ℕ) (s : State) (c : Command) : Type 0 where
 
 -- the rows that have the number n are those from lo to hi
 abbrev pub HaveNumber : ℕ → ℕ → ℕ → Type 0
-HaveNumber lo hi n = every (λ i. Bool·beq (eqb (rowIn refusals i .number) n) (within lo hi i)) (span 0 21) ≡ true
+HaveNumber lo hi n = every (λ i. Bool·beq (eqb (rowIn refusals i .number) n) (within lo hi i)) (span 0 (length refusals)) ≡ true
 
 beq-true : (a b : Bool) → Bool·beq a b ≡ true → a ≡ b
 beq-true true true h = refl
@@ -98,37 +90,37 @@ beq-true false true h = never h refl
 beq-true false false h = refl
 
 -- A number is given exactly if a row that has it applies, and none before that row does.
-pub number-rows : (n lo hi : ℕ) → 1 ≤ n → hi < 21 → HaveNumber lo hi n → (s : State) (c : Command) → (refusal s c ≡ n) exactly-if RefusesOneOf lo hi s c
+pub number-rows : (n lo hi : ℕ) → 1 ≤ n → hi < length refusals → HaveNumber lo hi n → (s : State) (c : Command) → (refusal s c ≡ n) exactly-if RefusesOneOf lo hi s c
 unfolding refusal refusals noneBefore within
 number-rows n lo hi l b h s c = (there, back)
   where
-    same : (i : ℕ) → i < 21 → eqb (rowIn refusals i .number) n ≡ within lo hi i
+    same : (i : ℕ) → i < length refusals → eqb (rowIn refusals i .number) n ≡ within lo hi i
     same i k =
         beq-true (eqb (rowIn refusals i .number) n) (within lo hi i)
-        (every-span (λ i. Bool·beq (eqb (rowIn refusals i .number) n) (within lo hi i)) 0 21 i (omega arith) (omega arith) h)
+        (every-span (λ i. Bool·beq (eqb (rowIn refusals i .number) n) (within lo hi i)) 0 (length refusals) i (omega arith) (omega arith) h)
 
     there : firstOf refusals (c .op) s c ≡ n → RefusesOneOf lo hi s c
     there e =
         let k = number-first (c .op) s c refusals (λ z. omega (arith, e, z)) in
-        let w = within-is lo hi (k .0) (sym (same (k .0) (omega (arith, k .1))) ∙ eq-eqb (rowIn refusals (k .0) .number) n (k .2 ∙ e)) in
+        let w = within-is lo hi (k .0) (sym (same (k .0) (k .1)) ∙ eq-eqb (rowIn refusals (k .0) .number) n (k .2 ∙ e)) in
         record { row = k .0; low = w .0; high = w .1; refuses = record { asked = k .3 .0; holds = k .3 .1; first = k .3 .2 } }
 
     back : RefusesOneOf lo hi s c → firstOf refusals (c .op) s c ≡ n
     back r =
         let i = r .row in
         let k = r .refuses in
-        let g : i < 21 = omega (arith, r .high) in
+        let g : i < length refusals = omega (arith, r .high) in
         first-number (c .op) s c refusals i g (k .asked, k .holds, k .first)
         ∙ eqb-true (rowIn refusals i .number) n (same i g ∙ both-true (leb lo i) (leb i hi) (le-leb lo i (r .low)) (le-leb i hi (r .high)))
 
 -- The number given is that of a row, so it lies within whatever bounds all rows' numbers do.
-pub row-numbers : (lo hi : ℕ) → every (λ i. within lo hi (rowIn refusals i .number)) (span 0 21) ≡ true → (s : State) (c : Command)
+pub row-numbers : (lo hi : ℕ) → every (λ i. within lo hi (rowIn refusals i .number)) (span 0 (length refusals)) ≡ true → (s : State) (c : Command)
     → (refusal s c ≡ 0 → ⊥) → (lo ≤ refusal s c) × (refusal s c ≤ hi)
 unfolding refusal refusals
 row-numbers lo hi h s c n =
     let k = number-first (c .op) s c refusals n in
     let w = within-is lo hi (rowIn refusals (k .0) .number)
-    (every-span (λ i. within lo hi (rowIn refusals i .number)) 0 21 (k .0) (omega arith) (omega (arith, k .1)) h) in
+    (every-span (λ i. within lo hi (rowIn refusals i .number)) 0 (length refusals) (k .0) (omega arith) (omega (arith, k .1)) h) in
     (omega (arith, w .0, k .2), omega (arith, w .1, k .2))
 
 -- ---- the tests made at each op
@@ -181,8 +173,8 @@ unfoldable pub testsIn : List (ℕ × List (Test × ℕ)) → ℕ → List (Test
 testsIn [] n = (always, 10) ∷ []
 testsIn (o ∷ os) n = let rest = testsIn os n in cond (eqb (o .0) n) (o .1) rest
 
--- At each of the 29 ops the table of refusals is the row of its tests.
-pub tests-at : (s : State) (c : Command) → All (λ n. firstOf refusals n s c ≡ firstMet (testsIn testsOf n) s c) (span 1 29)
+-- At each op the table of refusals is the row of its tests.
+pub tests-at : (s : State) (c : Command) → All (λ n. firstOf refusals n s c ≡ firstMet (testsIn testsOf n) s c) everyOp
 unfolding span firstOf refusals refuse_at_if_ within unknown adding among always firstMet testsIn testsOf
 tests-at s c =
     more refl (more refl (more refl (more refl (more refl (more refl (more refl (more refl (more refl (more refl (more refl (more refl (more refl

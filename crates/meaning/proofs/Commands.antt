@@ -1,4 +1,4 @@
--- Every command keeps a state good: one law for each way to place the cursor after an act, and the table of the 29 ops. Assumes nothing.
+-- Every command keeps a state good: one law for each way to place the cursor after an act, and the table of the ops. Assumes nothing.
 use mathlib.Core.Bool.{Bool, true, false, not, _&&_, _||_, cond}
 use mathlib.Core.List.{[], _∷_}
 use mathlib.Core.Option.{Option, none, some}
@@ -23,7 +23,7 @@ use Rattle.meaning.proofs.Changes.{add-good}
 use Rattle.meaning.proofs.Cursors.{lives-cursor, found-lives, next-lives, next-other}
 use Rattle.meaning.proofs.Members.{Lives}
 use Rattle.meaning.proofs.NewKeys.{end-says}
-use Rattle.meaning.proofs.Tables.{Passed, tree-is, meant-is, known-op, at-op}
+use Rattle.meaning.proofs.Tables.{Passed, tree-is, meant-is, everyOp, at-every-op}
 use Rattle.meaning.proofs.Adding.{tree-ok, record-ok, order-ok, kind-ok, end-ok, adding-ok}
 use Rattle.meaning.proofs.Acts.{end-cursor, add-lives, add-keeps, add-first, add-trees, Kept, show-kept, take-kept, add-kept, open-kept, roll-kept, commit-kept, reset-kept, take-lives}
 
@@ -147,7 +147,7 @@ module _ (w : Option Pool) (s : State) (c : Command) (g : GoodState w s) where
   row n h k = record { pool = h .pool; cursor = k; journal = h .journal }
 
   -- Every op that is not refused leaves a good state.
-  table : Parsed c → refusal s c ≡ 0 → All (λ n. Passed n s c → After w s c n) (span 1 29)
+  table : Parsed c → refusal s c ≡ 0 → All (λ n. Passed n s c → After w s c n) everyOp
   unfolding afterOp ops opIn op_means_does_then_ span within among adding show addNew noRecord nextOfCursor gone kept atShown whereItStood atFirst atLast
   table parsed z =
       let can : (n : ℕ) → Passed n s c → adding n ≡ true → Addable (s .pool) (treeOf s c) (c .key) (c .name) =
@@ -195,5 +195,5 @@ perform-good w s c parsed g = go (eqb (refusal s c) 0) refl
   where
     go : (b : Bool) → eqb (refusal s c) 0 ≡ b
         → GoodState (cond b (afterOp (c .op) w s) w) (cond b (carriedOut (opIn ops (c .op)) s c) (refused (refusal s c) s c) .state)
-    go true t = let z = eqb-true (refusal s c) 0 t in at-op (After w s c) (span 1 29) s c z (known-op s c z) (table w s c g parsed z)
+    go true t = let z = eqb-true (refusal s c) 0 t in at-every-op (After w s c) s c z (table w s c g parsed z)
     go false t = refused-good w (refusal s c) s c g

@@ -13,7 +13,7 @@ use Rattle.meaning.specs.Layout.{within, span}
 use Rattle.meaning.specs.Pool.{Pool, recAt}
 use Rattle.meaning.specs.Change.{freeSlot}
 use Rattle.meaning.specs.Cursor.{Command, State, standing, cursorTree, entryKey, nextOfCursor}
-use Rattle.meaning.specs.Command.{badTree, noCursor, notAtRecord, notKind, badName, badSlot, stale, otherTree, past, notBetween, isOther, notTheEntrys, noneThere, noSlot, noText, noStamp, among, refusal}
+use Rattle.meaning.specs.Command.{badTree, noCursor, notAtRecord, notKind, badName, badSlot, stale, otherTree, past, notBetween, isOther, notTheEntrys, noneThere, noSlot, noText, noStamp, among, lastOp, refusal}
 use Rattle.meaning.specs.WellFormed.{WellFormed}
 use Rattle.meaning.specs.Meant.{Entry, entriesOf, lookup, inSlot, front, facing, isNone, onSide, total, ofCursor, besideCursor, seen}
 use Rattle.meaning.proofs.Adding.{kind-ok}
@@ -71,7 +71,7 @@ module _ (w : Option Pool) (s : State) (c : Command) (g : GoodState w s) where
   -- the tests of op n are these two, the second that no entry is seen
   abbrev TwoTests : (State → Command → Bool) → ℕ → ℕ → Type 0
   TwoTests f e n =
-      (firstMet (testsIn testsOf n) s c ≡ cond (f s c) e (cond (noneThere s c) 19 0)) × (seeing n ≡ true) × (within 1 29 n ≡ true)
+      (firstMet (testsIn testsOf n) s c ≡ cond (f s c) e (cond (noneThere s c) 19 0)) × (seeing n ≡ true) × (within 1 lastOp n ≡ true)
 
   two-tests : (f : State → Command → Bool) (e : ℕ) → TwoTests f e (c .op) → refusal s c ≡ cond (f s c) e (cond (isNone (seen (s .pool) (s .cursor) c)) 19 0)
   two-tests f e k = tests-of-op s c (k .2) ∙ k .0 ∙ ap (λ (b : Bool). cond (f s c) e (cond b 19 0)) (none-is w s c g (k .1))
@@ -88,7 +88,7 @@ module _ (w : Option Pool) (s : State) (c : Command) (g : GoodState w s) where
   pub entry-code : among ((9, 11) ∷ []) (c .op) ≡ true → refusal s c ≡ cond (badTree s c) 11 0
   unfolding codes-opened
   entry-code h =
-      let k = among-all (λ n. (firstMet (testsIn testsOf n) s c ≡ cond (badTree s c) 11 0) × (within 1 29 n ≡ true)) ((9, 11) ∷ []) (c .op) h
+      let k = among-all (λ n. (firstMet (testsIn testsOf n) s c ≡ cond (badTree s c) 11 0) × (within 1 lastOp n ≡ true)) ((9, 11) ∷ []) (c .op) h
       (more (refl, refl) (more (refl, refl) (more (refl, refl) nil))) in
       tests-of-op s c (k .1) ∙ k .0
 
@@ -134,7 +134,7 @@ module _ (w : Option Pool) (s : State) (c : Command) (g : GoodState w s) where
 
   abbrev PutTests : Dir → (State → Command → Bool) → ℕ → Type 0
   PutTests d f n =
-      (firstMet (testsIn testsOf n) s c ≡ cond (f s c) 12 (cond (badName s c) 13 (cond (notBetween d s c) 18 (room s c)))) × (within 1 29 n ≡ true)
+      (firstMet (testsIn testsOf n) s c ≡ cond (f s c) 12 (cond (badName s c) 13 (cond (notBetween d s c) 18 (room s c)))) × (within 1 lastOp n ≡ true)
 
   put-tests : (d : Dir) (f : State → Command → Bool) → PutTests d f (c .op)
       → refusal s c ≡ cond (f s c) 12 (cond (badName s c) 13 (cond (outOfOrder d) 18 (room s c)))
@@ -218,7 +218,7 @@ module _ (w : Option Pool) (s : State) (c : Command) (g : GoodState w s) where
       let k = handle-is w s c g in
       let T : ℕ → Type 0 = λ n.
       (firstMet (testsIn testsOf n) s c ≡ cond (badTree s c) 11 (cond (badSlot s c) 14 (cond (stale s c) 15 (cond (otherTree s c) 16 (cond (noneThere s c) 19 0)))))
-      × (seeing n ≡ true) × (within 1 29 n ≡ true) in
+      × (seeing n ≡ true) × (within 1 lastOp n ≡ true) in
       let t = among-all T ((5, 6) ∷ []) (c .op) h (more (refl, refl, refl) (more (refl, refl, refl) nil)) in
       let e = tests-of-op s c (t .2) ∙ t .0 in
       let n = none-is w s c g (t .1) in

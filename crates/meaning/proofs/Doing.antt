@@ -1,16 +1,15 @@
 -- What a command that is done does, by its kind: it adds a record and shows its handle, removes the record meant, or is a mark, a rollback, a commit
 -- or a reset. Assumes nothing.
-use mathlib.Core.Bool.{Bool, true}
+use mathlib.Core.Bool.{true}
 use mathlib.Core.List.{List, [], _∷_, append-nil}
 use mathlib.Core.Option.{Option, none, some}
 use mathlib.Core.Path.{_≡_, refl, sym, ap, _∙_}
 use Prim.Native.Nat.{ℕ, _<_, _^_}
 use native.Mathlib.Omega.{arith}
-use lib.Dec.{leb, eqb}
-use borrow.Author.Tests.{eq-eqb, leb-true}
+use borrow.Author.Tests.{eq-eqb}
 use Rattle.fields.specs.Number.{getLE}
-use Rattle.avl.specs.Order.{All, nil, more}
-use Rattle.meaning.specs.Layout.{bit, within, every, count, span}
+use Rattle.avl.specs.Order.{nil, more}
+use Rattle.meaning.specs.Layout.{within, every, count, span}
 use Rattle.meaning.specs.Pool.{Rec, Pool, recAt}
 use Rattle.meaning.specs.Change.{freeSlot, newRec, addRec, dropRec, emptied, removed, Mark, noted}
 use Rattle.meaning.specs.Cursor.{Command, State, kind, treeOf}
@@ -19,33 +18,26 @@ use Rattle.meaning.specs.Doors.{ended}
 use Rattle.meaning.specs.WellFormed.{WellFormed}
 use Rattle.meaning.specs.Meant.{removing}
 use Rattle.meaning.specs.Calls.{shownSlot, shownStamp}
-use Rattle.meaning.proofs.Facts.{every-span, pack-get}
+use Rattle.meaning.proofs.Facts.{pack-get}
 use Rattle.meaning.proofs.Good.{Addable}
 use Rattle.meaning.proofs.Changes.{free-slot}
+use Rattle.meaning.proofs.Adding.{adders}
 use Rattle.meaning.proofs.Bindings.{added-rec}
-use Rattle.meaning.proofs.Neighbours.{counted}
-use Rattle.meaning.proofs.Tables.{known}
+use Rattle.meaning.proofs.Tables.{at-ops}
 
 -- A command that is not refused is carried out.
 pub performed : (s : State) (c : Command) → refusal s c ≡ 0 → perform s c ≡ carriedOut (opOf c) s c
 unfolding perform
 performed s c z = rw (eq-eqb (refusal s c) 0 z)
 
--- What holds of the ops of a list, which has all that pass a test, holds of the op of a command that passes it.
-among-ops : (P : ℕ → Type 0) (t : ℕ → Bool) (l : List ℕ) → every (λ n. leb (bit (t n)) (count (eqb n) l)) (span 1 29) ≡ true → All P l
-    → (s : State) (c : Command) → refusal s c ≡ 0 → t (c .op) ≡ true → P (c .op)
-among-ops P t l e a s c z h =
-    let k = known s c z in
-    let m = every-span (λ n. leb (bit (t n)) (count (eqb n) l)) 1 29 (c .op) (k .0) (omega (arith, k .1)) e in
-    counted (c .op) l a (omega (arith, leb-true (bit (t (c .op))) (count (eqb (c .op)) l) m, ap bit h))
-
 -- ---- records added
 
 does-add : (s : State) (c : Command) → adding (c .op) ≡ true → refusal s c ≡ 0 → opOf c .does s c (opOf c .means s c) ≡ addNew s c 0
 unfolding opOf ops opIn op_means_does_then_ adding among within every count span addNew
 does-add s c h z =
-    among-ops (λ n. opIn ops n .does s c (opIn ops n .means s c) ≡ addNew s c 0) adding (1 ∷ 16 ∷ 17 ∷ 18 ∷ 19 ∷ 20 ∷ 24 ∷ 25 ∷ []) refl
-    (more refl (more refl (more refl (more refl (more refl (more refl (more refl (more refl nil)))))))) s c z h
+    at-ops (λ n. opIn ops n .does s c (opIn ops n .means s c) ≡ addNew s c 0) adding adders refl s c z h
+    (more (λ _. refl) (more (λ _. refl) (more (λ _. refl) (more (λ _. refl) (more (λ _. refl) (more (λ _. refl) (more (λ _. refl)
+    (more (λ _. refl) nil))))))))
 
 -- what an adding command that is done leaves and shows: the new record, in the lowest free slot and with the next stamp
 pub record Added (s : State) (c : Command) : Type 0 where
@@ -87,8 +79,8 @@ does-take : (s : State) (c : Command) → removing (c .op) ≡ true → refusal 
     → opOf c .does s c (opOf c .means s c) ≡ takeOut s c (opOf c .means s c)
 unfolding opOf ops opIn op_means_does_then_ among within every count span
 does-take s c h z =
-    among-ops (λ n. opIn ops n .does s c (opIn ops n .means s c) ≡ takeOut s c (opIn ops n .means s c)) removing (3 ∷ 4 ∷ 21 ∷ 22 ∷ 23 ∷ []) refl
-    (more refl (more refl (more refl (more refl (more refl nil))))) s c z h
+    at-ops (λ n. opIn ops n .does s c (opIn ops n .means s c) ≡ takeOut s c (opIn ops n .means s c)) removing (3 ∷ 4 ∷ 21 ∷ 22 ∷ 23 ∷ []) refl s c z h
+    (more (λ _. refl) (more (λ _. refl) (more (λ _. refl) (more (λ _. refl) (more (λ _. refl) nil)))))
 
 -- the record r is taken out of its slot x, and a mark that is open notes it
 pub record Removed (s : State) (c : Command) (x : ℕ) (r : Rec) : Type 0 where

@@ -20,7 +20,7 @@ use Rattle.meaning.proofs.Good.{Addable, Journal, shut, begun, Restored
 use Rattle.meaning.proofs.Undoing.{undo-keeps}
 use Rattle.meaning.proofs.Journals.{restored}
 use Rattle.meaning.proofs.Adding.{adding-ok}
-use Rattle.meaning.proofs.Tables.{Passed, known-op, at-op}
+use Rattle.meaning.proofs.Tables.{Passed, everyOp, at-every-op}
 use Rattle.meaning.proofs.Commands.{afterOp, markedAt, perform-good}
 use Rattle.meaning.proofs.Batches.{AllParsed, none-left, and-then}
 
@@ -61,7 +61,7 @@ module _ {Q : Option Pool → Pool → Type 0} (k : Forward Q) (w : Option Pool)
       go none e = q
       go (some r) e = k .takes w (s .pool) x r (g .pool) e q
 
-  table : Parsed c → refusal s c ≡ 0 → All (λ n. Passed n s c → Q (afterOp n w s) (carriedOut (opIn ops n) s c .state .pool)) (span 1 29)
+  table : Parsed c → refusal s c ≡ 0 → All (λ n. Passed n s c → Q (afterOp n w s) (carriedOut (opIn ops n) s c .state .pool)) everyOp
   unfolding afterOp ops opIn op_means_does_then_ span within among adding carriedOut show addNew silent openMark rollBack commit reset
   table parsed z =
       let new : (n : ℕ) → Passed n s c → adding n ≡ true → Q w (addRec (treeOf s c) (c .key) (c .name) (s .pool)) =
@@ -106,7 +106,7 @@ module _ {Q : Option Pool → Pool → Type 0} (k : Forward Q) (w : Option Pool)
           → Q (cond b (afterOp (c .op) w s) w) (cond b (carriedOut (opIn ops (c .op)) s c) (refused (refusal s c) s c) .state .pool)
       go true t =
           let z = eqb-true (refusal s c) 0 t in
-          at-op (λ n. Q (afterOp n w s) (carriedOut (opIn ops n) s c .state .pool)) (span 1 29) s c z (known-op s c z) (table parsed z)
+          at-every-op (λ n. Q (afterOp n w s) (carriedOut (opIn ops n) s c .state .pool)) s c z (table parsed z)
       go false t = q
 
 -- a good state with the property, whatever pool is at its open mark

@@ -16,7 +16,7 @@ use Rattle.meaning.specs.WellFormed.{WellFormed}
 use Rattle.meaning.specs.Calls.{shownSlot, shownStamp}
 use Rattle.meaning.proofs.Members.{slot-in}
 use Rattle.meaning.proofs.ReadBack.{on-slot}
-use Rattle.meaning.proofs.Tables.{Passed, known-op, at-op}
+use Rattle.meaning.proofs.Tables.{Passed, everyOp, at-every-op}
 use Rattle.meaning.proofs.Doing.{performed, answer-shows}
 
 -- what is shown
@@ -42,7 +42,7 @@ module _ (s : State) (c : Command) where
   unfolding addNew
   added x = let d = addNew s c x in on-slot (recAt (d .pool) (d .shown)) (λ e. nothing e) (λ r e. new r e e)
 
-  table : All (λ n. Passed n s c → Shows s (opIn ops n .does s c (opIn ops n .means s c))) (span 1 29)
+  table : All (λ n. Passed n s c → Shows s (opIn ops n .does s c (opIn ops n .means s c))) everyOp
   unfolding ops opIn op_means_does_then_ span openMark rollBack commit reset silent
   table =
       more (λ _. added _)
@@ -100,7 +100,7 @@ fits p x r w e =
 pub answer-given : (s : State) (c : Command) → refusal s c ≡ 0 → WellFormed (s .pool) → WellFormed (perform s c .state .pool)
     → (shownSlot (perform s c .answer) ≡ 0 → ⊥) → Given s c
 unfolding opOf carriedOut
-answer-given s c z w v n = go (at-op (λ n. Shows s (opIn ops n .does s c (opIn ops n .means s c))) (span 1 29) s c z (known-op s c z) (table s c))
+answer-given s c z w v n = go (at-every-op (λ n. Shows s (opIn ops n .does s c (opIn ops n .means s c))) s c z (table s c))
   where
     d : Done
     d = opIn ops (c .op) .does s c (opIn ops (c .op) .means s c)

@@ -16,7 +16,7 @@ use Rattle.meaning.specs.Cursor.{Command, State, treeOf}
 use Rattle.meaning.specs.Command.{show, takenOut, takeOut, addNew, silent, openMark, rollBack, commit, reset, op_means_does_then_, ops, opIn, opOf, refusal, refused, carriedOut, perform}
 use Rattle.meaning.specs.Doors.{run, ended}
 use Rattle.meaning.proofs.Facts.{length-put}
-use Rattle.meaning.proofs.Tables.{at-op, known-op}
+use Rattle.meaning.proofs.Tables.{at-every-op}
 
 -- q has as many slots and trees as p, and as much room for text
 pub record SameSizes (p q : Pool) : Type 0 where
@@ -80,7 +80,7 @@ module _ (s : State) (c : Command) where
       let looks : SameSizes p p = same p in
       let takes : (x : ℕ) → SameSizes p (takenOut s x (recAt p x) .pool) = λ x. taken-sizes s x (recAt p x) in
       let new : SameSizes p (addRec (treeOf s c) (c .key) (c .name) p) = add-sizes (treeOf s c) (c .key) (c .name) p in
-      at-op Stays (span 1 29) s c z (known-op s c z)
+      at-every-op Stays s c z
       (more (λ _. new) (more (λ _. looks) (more (λ _. takes _) (more (λ _. takes _) (more (λ _. looks) (more (λ _. looks) (more (λ _. looks)
       (more (λ _. looks) (more (λ _. looks) (more (λ _. looks) (more (λ _. looks) (more (λ _. looks) (more (λ _. looks) (more (λ _. looks)
       (more (λ _. looks) (more (λ _. new) (more (λ _. new) (more (λ _. new) (more (λ _. new) (more (λ _. new) (more (λ _. takes _) (more (λ _. takes _)

@@ -3,15 +3,16 @@
 use mathlib.Core.Bool.{Bool, true, false, not, _&&_, cond}
 use mathlib.Core.List.{List, [], _∷_}
 use mathlib.Core.Path.{_≡_, refl, ap}
-use Prim.Native.Nat.{ℕ, _≤_}
+use Prim.Native.Nat.{ℕ, zero, suc, _+_, _≤_}
 use native.Mathlib.Omega.{arith}
 use lib.Dec.{leb, eqb}
+use lib.ListN.{getD}
 use borrow.Author.Tests.{leb-true}
 use Rattle.avl.specs.Tree.{left, right}
 use Rattle.avl.specs.Order.{All}
-use Rattle.meaning.specs.Layout.{within, every, count, span}
+use Rattle.meaning.specs.Layout.{bit, within, every, count, span}
 use Rattle.meaning.specs.Cursor.{Command, State, cursorTree, treeOf}
-use Rattle.meaning.specs.Command.{always, badTree, noCursor, notAtRecord, notKind, marked, unmarked, badName, badSlot, stale, otherTree, present, notBetween, notTheEntrys, noneThere, noSlot, noText, noStamp, among, unknown, adding, Refusal, refuse_at_if_, refusals, firstOf, refusal, ops, opIn, opOf, meant}
+use Rattle.meaning.specs.Command.{always, badTree, noCursor, notAtRecord, notKind, marked, unmarked, badName, badSlot, stale, otherTree, present, notBetween, notTheEntrys, noneThere, noSlot, noText, noStamp, among, unknown, adding, Refusal, refuse_at_if_, refusals, firstOf, refusal, lastOp, ops, opIn, opOf, meant}
 use Rattle.meaning.proofs.Facts.{test, both, every-span}
 use Rattle.meaning.proofs.Clauses.{within-is}
 use Rattle.meaning.proofs.Neighbours.{counted}
@@ -22,23 +23,69 @@ use Rattle.meaning.proofs.Neighbours.{counted}
 pub never {ℓ} : {A : Type ℓ} {b : Bool} → b ≡ true → b ≡ false → A
 never {b = b} h k = let z : _≡_ {A = ℕ} 0 1 = cc in absurd (omega arith)
 
--- no test of the list that is made at op n is met
-abbrev Clear : List Refusal → ℕ → State → Command → Type 0
-Clear [] n s c = Unit {0}
-Clear (r ∷ rs) n s c = (r .ops n ≡ true → r .given s c ≡ false) × Clear rs n s c
+-- a row beyond the table, which refuses nothing
+abbrev noRow : Refusal
+noRow = refuse 0 at (λ _. false) if always
 
-clear : (rs : List Refusal) (n : ℕ) (s : State) (c : Command) → every (λ r. leb 1 (r .number)) rs ≡ true → firstOf rs n s c ≡ 0 → Clear rs n s c
-unfolding every firstOf
-clear [] n s c h z = tt
-clear (r ∷ rs) n s c h z =
-    let k = both (leb 1 (r .number)) (every (λ r. leb 1 (r .number)) rs) h in
-    go (r .ops n) (r .given s c) (leb-true 1 (r .number) (k .0)) z (clear rs n s c (k .1))
-  where
-    go : (a b : Bool) → 1 ≤ r .number → cond (a && b) (r .number) (firstOf rs n s c) ≡ 0 → (firstOf rs n s c ≡ 0 → Clear rs n s c)
-        → (a ≡ true → b ≡ false) × Clear rs n s c
-    go true true l z f = absurd (omega arith)
-    go true false l z f = (λ _. refl, f z)
-    go false b l z f = (λ k. never k refl, f z)
+-- row i of a table, counted from 0
+unfoldable pub rowIn : List Refusal → ℕ → Refusal
+rowIn rs i = getD rs i noRow
+
+-- where a table has the number n first
+unfoldable pub placeIn : List Refusal → ℕ → ℕ
+placeIn [] n = 0
+placeIn (r ∷ rs) n = let rest = placeIn rs n in cond (eqb (r .number) n) 0 (suc rest)
+
+abbrev pub rowOf : ℕ → ℕ
+rowOf n = placeIn refusals n
+
+-- the rows of BAD_CURSOR, by what the cursor must be at
+abbrev pub atCursorRow : ℕ
+atCursorRow = rowOf 12
+
+abbrev pub atRecordRow : ℕ
+atRecordRow = rowOf 12 + 1
+
+abbrev pub atVacantRow : ℕ
+atVacantRow = rowOf 12 + 2
+
+abbrev pub atLastRow : ℕ
+atLastRow = rowOf 12 + 3
+
+abbrev pub atFirstRow : ℕ
+atFirstRow = rowOf 12 + 4
+
+-- and of ORDER, by where the key must be
+abbrev pub keyBeforeRow : ℕ
+keyBeforeRow = rowOf 18
+
+abbrev pub keyBehindRow : ℕ
+keyBehindRow = rowOf 18 + 1
+
+abbrev pub keyVacantRow : ℕ
+keyVacantRow = rowOf 18 + 2
+
+module _ (n : ℕ) (s : State) (c : Command) where
+  -- where no row refuses, the first one does not, and none after it does
+  first-clear : (r : Refusal) (rs : List Refusal) → 1 ≤ r .number → firstOf (r ∷ rs) n s c ≡ 0
+      → (r .ops n ≡ true → r .given s c ≡ false) × (firstOf rs n s c ≡ 0)
+  unfolding firstOf
+  first-clear r rs l z = go (r .ops n) (r .given s c) z
+    where
+      go : (a b : Bool) → cond (a && b) (r .number) (firstOf rs n s c) ≡ 0 → (a ≡ true → b ≡ false) × (firstOf rs n s c ≡ 0)
+      go true true z = absurd (omega arith)
+      go true false z = (λ _. refl, z)
+      go false b z = (λ k. never k refl, z)
+
+  clear : (rs : List Refusal) → every (λ r. leb 1 (r .number)) rs ≡ true → firstOf rs n s c ≡ 0
+      → (i : ℕ) → rowIn rs i .ops n ≡ true → rowIn rs i .given s c ≡ false
+  unfolding every rowIn refuse_at_if_
+  clear [] h z i k = never k refl
+  clear (r ∷ rs) h z zero k =
+      first-clear r rs (leb-true 1 (r .number) (both (leb 1 (r .number)) (every (λ r. leb 1 (r .number)) rs) h .0)) z .0 k
+  clear (r ∷ rs) h z (suc i) k =
+      let e = both (leb 1 (r .number)) (every (λ r. leb 1 (r .number)) rs) h in
+      clear rs (e .1) (first-clear r rs (leb-true 1 (r .number) (e .0)) z .1) i k
 
 -- what a command of op n that is not refused has passed, test by test
 pub record Passed (n : ℕ) (s : State) (c : Command) : Type 0 where
@@ -67,34 +114,32 @@ pub record Passed (n : ℕ) (s : State) (c : Command) : Type 0 where
 
 -- A command that is not refused has passed the tests of its op.
 pub passed : (s : State) (c : Command) → refusal s c ≡ 0 → Passed (c .op) s c
-unfolding refusal refusals refuse_at_if_ always every
+unfolding refusal refusals refuse_at_if_ always every rowIn placeIn
 passed s c z =
-    let a = clear refusals (c .op) s c refl z in
-    let b = a .1 .1 .1 .1 .1 .1 .1 in
-    let d = b .1 .1 .1 .1 .1 .1 .1 in
+    let by : (i : ℕ) → rowIn refusals i .ops (c .op) ≡ true → rowIn refusals i .given s c ≡ false = clear (c .op) s c refusals refl z in
     record {
       op-is = refl;
-      op-known = λ h. never refl (a .0 h);
-      tree-good = a .1 .0;
-      has-cursor = a .1 .1 .0;
-      at-record = a .1 .1 .1 .0;
-      at-vacant = a .1 .1 .1 .1 .0;
-      at-last = a .1 .1 .1 .1 .1 .0;
-      at-first = a .1 .1 .1 .1 .1 .1 .0;
-      mark-open = b .0;
-      no-mark = b .1 .0;
-      name-good = b .1 .1 .0;
-      slot-good = b .1 .1 .1 .0;
-      not-stale = b .1 .1 .1 .1 .0;
-      in-tree = b .1 .1 .1 .1 .1 .0;
-      key-absent = b .1 .1 .1 .1 .1 .1 .0;
-      key-before = d .0;
-      key-behind = d .1 .0;
-      key-vacant = d .1 .1 .0;
-      one-there = d .1 .1 .1 .0;
-      slot-free = d .1 .1 .1 .1 .0;
-      text-fits = d .1 .1 .1 .1 .1 .0;
-      stamp-left = d .1 .1 .1 .1 .1 .1 .0;
+      op-known = λ h. never refl (by (rowOf 10) h);
+      tree-good = by (rowOf 11);
+      has-cursor = by atCursorRow;
+      at-record = by atRecordRow;
+      at-vacant = by atVacantRow;
+      at-last = by atLastRow;
+      at-first = by atFirstRow;
+      mark-open = by (rowOf 23);
+      no-mark = by (rowOf 24);
+      name-good = by (rowOf 13);
+      slot-good = by (rowOf 14);
+      not-stale = by (rowOf 15);
+      in-tree = by (rowOf 16);
+      key-absent = by (rowOf 17);
+      key-before = by keyBeforeRow;
+      key-behind = by keyBehindRow;
+      key-vacant = by keyVacantRow;
+      one-there = by (rowOf 19);
+      slot-free = by (rowOf 20);
+      text-fits = by (rowOf 21);
+      stamp-left = by (rowOf 22);
     }
 
 -- ---- the ops
@@ -110,20 +155,24 @@ module _ {n : ℕ} {s : State} {c : Command} (t : Passed n s c) where
   unfolding meant opOf
   meant-is = ap (λ (o : ℕ). opIn ops o .means s c) (t .op-is)
 
--- What holds of every op of a list that has the command's op, for a command that passed its tests, holds at the command.
-pub at-op : (P : ℕ → Type 0) (l : List ℕ) (s : State) (c : Command) → refusal s c ≡ 0 → 1 ≤ count (eqb (c .op)) l → All (λ n. Passed n s c → P n) l
-    → P (c .op)
-at-op P l s c z h a = counted (c .op) l a h (passed s c z)
+-- the numbers of the ops
+abbrev pub everyOp : List ℕ
+everyOp = span 1 lastOp
 
--- A command that is not refused has one of the 29 ops.
-pub known : (s : State) (c : Command) → refusal s c ≡ 0 → (1 ≤ c .op) × (c .op ≤ 29)
+-- A command that is not refused has one of them.
+known : (s : State) (c : Command) → refusal s c ≡ 0 → (1 ≤ c .op) × (c .op ≤ lastOp)
 unfolding unknown
-known s c z = test (within 1 29 (c .op)) (λ h. within-is 1 29 (c .op) h) (λ h. absurd (passed s c z .op-known (ap not h)))
+known s c z = test (within 1 lastOp (c .op)) (λ h. within-is 1 lastOp (c .op) h) (λ h. absurd (passed s c z .op-known (ap not h)))
 
--- So its op is one of the numbers from 1 to 29.
-pub known-op : (s : State) (c : Command) → refusal s c ≡ 0 → 1 ≤ count (eqb (c .op)) (span 1 29)
-unfolding every count span
-known-op s c z =
+-- What holds of the ops of a list, for a command that passed their tests, holds of a command whose op has a property, if the list has all such ops.
+pub at-ops : (P : ℕ → Type 0) (t : ℕ → Bool) (l : List ℕ) → every (λ n. leb (bit (t n)) (count (eqb n) l)) everyOp ≡ true
+    → (s : State) (c : Command) → refusal s c ≡ 0 → t (c .op) ≡ true → All (λ n. Passed n s c → P n) l → P (c .op)
+at-ops P t l e s c z h a =
     let k = known s c z in
-    let n = c .op in
-    leb-true 1 (count (eqb n) (span 1 29)) (every-span (λ n. leb 1 (count (eqb n) (span 1 29))) 1 29 n (k .0) (omega arith) refl)
+    let m = every-span (λ n. leb (bit (t n)) (count (eqb n) l)) 1 lastOp (c .op) (k .0) (omega (arith, k .1)) e in
+    counted (c .op) l a (omega (arith, leb-true (bit (t (c .op))) (count (eqb (c .op)) l) m, ap bit h)) (passed s c z)
+
+-- So with all ops.
+pub at-every-op : (P : ℕ → Type 0) (s : State) (c : Command) → refusal s c ≡ 0 → All (λ n. Passed n s c → P n) everyOp → P (c .op)
+unfolding every count span
+at-every-op P s c z a = at-ops P (λ _. true) everyOp refl s c z refl a

@@ -1,4 +1,4 @@
--- One command: the 29 ops as one table, the refusals as one ordered table, and what a command answers and leaves. Assumes nothing.
+-- One command: the ops as one table, the refusals as one ordered table, and what a command answers and leaves. Assumes nothing.
 use mathlib.Core.Bool.{Bool, true, false, not, _&&_, _||_, cond}
 use mathlib.Core.List.{List, [], _∷_}
 use mathlib.Core.Option.{Option, none, some}
@@ -98,6 +98,10 @@ ops =
     ∷ op 28 means noRecord does commit then gone  -- commit
     ∷ op 29 means noRecord does reset then gone  -- reset
     ∷ []
+
+-- the number of the last op: they are counted from 1
+abbrev pub lastOp : ℕ
+lastOp = 29
 
 -- the op of a number; any for the others, which are refused
 unfoldable pub opIn : List Op → ℕ → Op
@@ -201,7 +205,7 @@ among [] n = false
 among (r ∷ rs) n = within (r .0) (r .1) n || among rs n
 
 unfoldable pub unknown : ℕ → Bool
-unknown n = not (within 1 29 n)
+unknown n = not (within 1 lastOp n)
 
 unfoldable pub adding : ℕ → Bool
 adding = among ((1, 1) ∷ (16, 20) ∷ (24, 25) ∷ [])

@@ -8,7 +8,7 @@
 //     Sound       when a pool is sound, clause by clause
 //     Change      free slots, a record in and out, reset, marks and what they undo
 //     Cursor      the cursor, and which record a command means
-//     Command     the 29 ops as one table, the refusals as one ordered table, one command
+//     Command     the ops as one table, the refusals as one ordered table, one command
 //     Doors       create, check, batch and name, on all inputs
 //     Listing     the listing program's text
 //     WellFormed  what is true of the state of every sound pool

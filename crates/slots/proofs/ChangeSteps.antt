@@ -1,11 +1,12 @@
--- A record into the pool and out of it call by call, and a name copied. Assumes nothing.
+-- A record into the pool and out of it call by call, a name copied, and the text cut. Assumes nothing.
 use mathlib.Core.Path.{_≡_, sym, ap, _∙_}
 use mathlib.Core.Bool.{Bool, true, false}
 use mathlib.Core.List.{List}
-use Prim.Native.Nat.{ℕ, _+_, _*_, _-_}
+use Prim.Native.Nat.{ℕ, _+_, _*_, _-_, _≤_}
 use native.Mathlib.Omega.{arith}
 use lib.Dec.{leb}
-use lib.ListN.{length, take, drop}
+use lib.ListN.{length, take, drop, replicate}
+use borrow.Author.Tests.{le-ltb}
 use Rattle.fields.specs.Part.{part, splice}
 use Rattle.fields.proofs.Parts.{inside, outside, part-in, part-out, splice-none}
 use Rattle.avl.specs.Tree.{Dir}
@@ -14,8 +15,8 @@ use Rattle.tree.specs.Insert.{moreN}
 use Rattle.tree.specs.Remove.{lessN, removeN}
 use Rattle.tree.specs.declared.node.AvlTree.{AvlTree}
 use Rattle.slots.specs.Record.{clearN}
-use Rattle.slots.specs.Head.{treeN, setTreeN}
-use Rattle.slots.specs.Change.{Image, freeAfterN, hungN, putRecN, freedN, takenN, dropRecN, grownN, addRecN}
+use Rattle.slots.specs.Head.{treeN, setTreeN, withNumbers}
+use Rattle.slots.specs.Change.{Image, freeAfterN, hungN, putRecN, freedN, takenN, dropRecN, cutN}
 use Rattle.slots.specs.declared.record.Record.{Record}
 use Rattle.slots.specs.declared.head.Head.{Head}
 
@@ -39,22 +40,12 @@ name-copied m at names from len e f g =
 
 -- the head after an edit of a tree
 abbrev pub changed : Head → ℕ → ℕ → List AvlTree → Head
-changed h live free ts =
-    record {
-      slots = h .slots;
-      trees = h .trees;
-      live = live;
-      free = free;
-      size = h .size;
-      used = h .used;
-      next = h .next;
-      table = ts;
-    }
+changed h live free ts = record { numbers = withNumbers (h .numbers) live free (h .numbers .used) (h .numbers .next); table = ts }
 
 -- What `put_rec` calls, in its order.
 pub put-steps : (m : List ℕ) (h : Head) (x : ℕ) (v : Record) (p : ℕ) (d : Dir) {t : AvlTree} {o : Store} {free live : ℕ} {ts : List AvlTree}
-    → t ≡ treeN (h .table) (v .tree) → o ≡ hungN m t x v p d → free ≡ freeAfterN (o .0) (h .slots) (h .free) x
-    → ts ≡ setTreeN (h .table) (v .tree) (o .1) → live ≡ moreN (h .live)
+    → t ≡ treeN (h .table) (v .tree) → o ≡ hungN m t x v p d → free ≡ freeAfterN (o .0) (h .numbers .slots) (h .numbers .free) x
+    → ts ≡ setTreeN (h .table) (v .tree) (o .1) → live ≡ moreN (h .numbers .live)
     → _≡_ {A = Image} (o .0, changed h live free ts) (putRecN m h x v p d)
 unfolding putRecN
 put-steps m h x v p d e1 e2 e3 e4 e5 = (cc)
@@ -67,14 +58,17 @@ take-steps m t x e1 e2 = (cc)
 
 -- What `drop_rec` calls, in its order.
 pub drop-steps : (m : List ℕ) (h : Head) (x t : ℕ) {u : AvlTree} {o : Store} {free live : ℕ} {ts : List AvlTree} → u ≡ treeN (h .table) t
-    → o ≡ takenN m u x → ts ≡ setTreeN (h .table) t (o .1) → live ≡ lessN (h .live) → free ≡ freedN (h .free) x
+    → o ≡ takenN m u x → ts ≡ setTreeN (h .table) t (o .1) → live ≡ lessN (h .numbers .live) → free ≡ freedN (h .numbers .free) x
     → _≡_ {A = Image} (o .0, changed h live free ts) (dropRecN m h x t)
 unfolding dropRecN
 drop-steps m h x t e1 e2 e3 e4 e5 = (cc)
 
--- What `add_rec` calls, in its order.
-pub add-steps : (m : List ℕ) (h : Head) (v : Record) (names : List ℕ) (from p : ℕ) (d : Dir) {named : List ℕ} {g : Head} {o : Image}
-    → named ≡ splice m (32 * h .slots + h .used) (part names from (v .len)) → g ≡ grownN h (v .len) → o ≡ putRecN named g (h .free) v p d
-    → o ≡ addRecN m h v names from p d
-unfolding addRecN
-add-steps m h v names from p d e1 e2 e3 = (cc)
+-- ---- the text
+
+-- What `cut` stores, where there is text above.
+pub cut-steps : (m : List ℕ) (h : Head) (used : ℕ) {last : List ℕ} → used ≤ h .numbers .used
+    → last ≡ splice m (32 * h .numbers .slots + used) (replicate (h .numbers .used - used) 0)
+    → let n = h .numbers in
+    _≡_ {A = Image} (last, record { numbers = withNumbers n (n .live) (n .free) used (n .next); table = h .table }) (cutN m h used)
+unfolding cutN
+cut-steps m h used l e = simp (le-ltb (h .numbers .used) used l) (cc)

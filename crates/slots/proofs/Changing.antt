@@ -32,7 +32,7 @@ use Rattle.meaning.proofs.Members.{list-short, slot-in}
 use Rattle.meaning.proofs.Packed.{count-high}
 use Rattle.meaning.proofs.Stored.{links-out}
 use Rattle.slots.specs.Record.{fillN, clearN, lowestN}
-use Rattle.slots.specs.Head.{treeN, setTreeN}
+use Rattle.slots.specs.Head.{treeN, setTreeN, withNumbers}
 use Rattle.slots.specs.Change.{Image, freeAfterN, hungN, putRecN, freedN, takenN, dropRecN, addRecN}
 use Rattle.slots.specs.Image.{textBytes, bodyOf, headOf, tableOf, recordOf, cargoOf, elsewhere}
 use Rattle.slots.specs.declared.head.Head.{Head}
@@ -55,29 +55,23 @@ changed-table : (p q : Pool) (x : ℕ) (o : Option Rec) (t : ℕ) (u : Tree) →
 changed-table p q x o t u e i w low high =
     ap (λ (v : Tree). setTreeN (tableOf 8 (p .trees)) t (tableEntry v)) (e .tree) ∙ table-put (p .trees) t u low high (w .trees-high) ∙ ap (tableOf 8) (sym i)
 
--- the body that a change of p leaves, and its head, with the tree t that it leaves; text, sizes and stamps are those of q
+-- the body that a change of p leaves, and its head, with the tree t that it leaves; text and stamp are those of q
 abbrev left-by : Pool → Pool → ℕ → ℕ → (List ℕ → ℕ) → Store → Image
 left-by p q t live free o = (
   o .0,
   record {
-    slots = length (p .slots);
-    trees = length (p .trees);
-    live = live;
-    free = free (o .0);
-    size = q .size;
-    used = length (q .text);
-    next = q .next;
+    numbers = withNumbers (headOf p .numbers) live (free (o .0)) (length (q .text)) (q .next);
     table = setTreeN (tableOf 8 (p .trees)) t (o .1);
   },
 )
 
 -- they are those of q, if body, tree and numbers are
 changed-image : (p q : Pool) (t live : ℕ) (free : List ℕ → ℕ) {o : Store} → o ≡ (bodyOf q, tableEntry (treeAt q t)) → length (q .slots) ≡ length (p .slots)
-    → length (q .trees) ≡ length (p .trees) → live ≡ liveCount q → free (bodyOf q) ≡ freeSlot q
+    → length (q .trees) ≡ length (p .trees) → p .size ≡ q .size → live ≡ liveCount q → free (bodyOf q) ≡ freeSlot q
     → setTreeN (tableOf 8 (p .trees)) t (tableEntry (treeAt q t)) ≡ tableOf 8 (q .trees) → left-by p q t live free o ≡ (bodyOf q, headOf q)
-changed-image p q t live free e a b c d f =
+changed-image p q t live free e a b c d f g =
     ap (left-by p q t live free) e
-    ∙ ap (λ (h : Head). (bodyOf q, h)) (head-as q (length (p .slots)) (length (p .trees)) live _ _ (sym a) (sym b) c d f)
+    ∙ ap (λ (h : Head). (bodyOf q, h)) (head-as p q live _ _ (sym a) (sym b) c d f g)
 
 -- ---- a record in
 
@@ -162,7 +156,7 @@ unfolding putRecN headOf recordOf putRec withTrees
 put-image p w x r f =
     let e = put-edit p w x r f in
     changed-image p (putRec x r p) (r .tree) (moreN (liveCount p)) (λ m. freeAfterN m (length (p .slots)) (freeSlot p) x) (put-hung p w x r f)
-    (put-slots p w x r f) (e .many) (put-live p w x r f) (put-lowest p w x r f)
+    (put-slots p w x r f) (e .many) refl (put-live p w x r f) (put-lowest p w x r f)
     (changed-table p (putRec x r p) x _ (r .tree) _ e refl w (f .good .tree-low) (f .good .tree-high))
 
 -- ---- a record out
@@ -257,7 +251,7 @@ drop-image p w x r live =
     let e = drop-edit p w x r live in
     let h = drop-home p w x r live in
     changed-image p (dropRec x r p) (r .tree) (lessN (liveCount p)) (λ m. freedN (freeSlot p) x) (drop-taken p w x r live) (drop-slots p w x r live)
-    (e .many) (drop-live p w x r live) (drop-lowest p w x r live) (changed-table p (dropRec x r p) x _ (r .tree) _ e refl w (h .0) (h .1))
+    (e .many) refl (drop-live p w x r live) (drop-lowest p w x r live) (changed-table p (dropRec x r p) x _ (r .tree) _ e refl w (h .0) (h .1))
 
 -- ---- a new record with its name
 

@@ -18,16 +18,16 @@ use Rattle.meaning.specs.Pool.{Rec, Pool, liveCount}
 use Rattle.meaning.specs.Change.{freeFrom, freeSlot}
 use Rattle.meaning.proofs.Facts.{test}
 use Rattle.meaning.proofs.Formed.{not-both}
-use Rattle.slots.specs.Head.{setTreeN}
+use Rattle.slots.specs.Head.{setTreeN, withNumbers}
 use Rattle.slots.specs.Change.{freedN}
 use Rattle.slots.specs.Image.{tableOf, headOf}
 
--- The head of a pool, from what a change computes anew.
-pub head-as : (q : Pool) (N T live free : ℕ) (table : List AvlTree) → N ≡ length (q .slots) → T ≡ length (q .trees) → live ≡ liveCount q → free ≡ freeSlot q
-    → table ≡ tableOf 8 (q .trees)
-    → record { slots = N; trees = T; live = live; free = free; size = q .size; used = length (q .text); next = q .next; table = table } ≡ headOf q
+-- The head of the pool q, from that of p, whose sizes are the same, and what a change computes anew.
+pub head-as : (p q : Pool) (live free : ℕ) (table : List AvlTree) → length (p .slots) ≡ length (q .slots) → length (p .trees) ≡ length (q .trees)
+    → p .size ≡ q .size → live ≡ liveCount q → free ≡ freeSlot q → table ≡ tableOf 8 (q .trees)
+    → record { numbers = withNumbers (headOf p .numbers) live free (length (q .text)) (q .next); table = table } ≡ headOf q
 unfolding headOf
-head-as q N T live free table a b c d e = rw (a, b, c, d, e)
+head-as p q live free table a b c d e f = rw (a, b, c, d, e, f)
 
 -- ---- the table
 

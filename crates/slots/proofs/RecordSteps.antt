@@ -2,6 +2,7 @@
 use mathlib.Core.Path.{_≡_, sym, ap, _∙_}
 use mathlib.Core.Bool.{cond}
 use mathlib.Core.List.{List, _++_}
+use native.Mathlib.Nat.{add-zero}
 use native.Mathlib.Omega.{arith}
 use Prim.Native.Nat.{ℕ, suc, _+_, _*_, _-_, _<_, _≤_}
 use lib.Dec.{eqb}
@@ -14,11 +15,11 @@ use Rattle.slots.specs.Answer.{putAnswerN}
 use Rattle.slots.specs.declared.record.Record.{Record}
 
 -- What `part_record` reads.
-pub fields-read : (m : List ℕ) (x : ℕ) {key stamp start len tree : ℕ} → 0 < x → key ≡ getLE 8 m (32 * (x - 1)) → stamp ≡ getLE 4 m (32 * (x - 1) + 16)
+pub fields-read : (m : List ℕ) (x : ℕ) {key stamp start len tree : ℕ} → 0 < x → key ≡ getLE 8 m (32 * (x - 1) + 0) → stamp ≡ getLE 4 m (32 * (x - 1) + 16)
     → start ≡ getLE 4 m (32 * (x - 1) + 20) → len ≡ getLE 2 m (32 * (x - 1) + 24) → tree ≡ getLE 1 m (32 * (x - 1) + 15)
     → record { key = key; stamp = stamp; start = start; len = len; tree = tree } ≡ recordN m x
 unfolding recordN fieldsAt
-fields-read m x s e1 e2 e3 e4 e5 = simp (ne-eqb x 0 (λ z. omega arith)) (cc)
+fields-read m x s e1 e2 e3 e4 e5 = simp (ne-eqb x 0 (λ z. omega arith)) (cc (add-zero (32 * (x - 1))))
 
 -- What `record_at` reads of the slot's own part of the body.
 pub slot-read : (m : List ℕ) (x : ℕ) {key stamp start len tree : ℕ} → (x ≡ 0 → ⊥) → 32 * x ≤ length m
@@ -31,16 +32,15 @@ slot-read m x s h e1 e2 e3 e4 e5 =
     λ w f b.
     let i : 32 * x - 32 + f ≡ 32 * (x - 1) + f = omega arith in
     get-part m (32 * x - 32) (32 * x - (32 * x - 32)) f w (omega arith) (omega arith) ∙ ap (getLE w m) i in
-    let z : 32 * (x - 1) + 0 ≡ 32 * (x - 1) = omega arith in
-    fields-read m x pos (e1 ∙ field 8 0 (omega arith) ∙ ap (getLE 8 m) z) (e2 ∙ field 4 16 (omega arith)) (e3 ∙ field 4 20 (omega arith))
+    fields-read m x pos (e1 ∙ field 8 0 (omega arith)) (e2 ∙ field 4 16 (omega arith)) (e3 ∙ field 4 20 (omega arith))
     (e4 ∙ field 2 24 (omega arith)) (e5 ∙ field 1 15 (omega arith))
 
 -- The lists between the stores of `part_fill`.
-pub fields-stored : (m : List ℕ) (x : ℕ) (v : Record) {m1 m2 m3 m4 m5 : List ℕ} → 0 < x → m1 ≡ putLE 8 m (32 * (x - 1)) (v .key)
+pub fields-stored : (m : List ℕ) (x : ℕ) (v : Record) {m1 m2 m3 m4 m5 : List ℕ} → 0 < x → m1 ≡ putLE 8 m (32 * (x - 1) + 0) (v .key)
     → m2 ≡ putLE 1 m1 (32 * (x - 1) + 15) (v .tree) → m3 ≡ putLE 4 m2 (32 * (x - 1) + 16) (v .stamp)
     → m4 ≡ putLE 4 m3 (32 * (x - 1) + 20) (v .start) → m5 ≡ putLE 2 m4 (32 * (x - 1) + 24) (v .len) → m5 ≡ fillN m x v
 unfolding fillN fieldsPut
-fields-stored m x v s e1 e2 e3 e4 e5 = simp (ne-eqb x 0 (λ z. omega arith)) (cc)
+fields-stored m x v s e1 e2 e3 e4 e5 = simp (ne-eqb x 0 (λ z. omega arith)) (cc (add-zero (32 * (x - 1))))
 
 -- The parts between the stores of `fill`, and the body with the last of them in place.
 pub slot-stored : (m : List ℕ) (x : ℕ) (v : Record) {r1 r2 r3 r4 r5 : List ℕ} → (x ≡ 0 → ⊥) → 32 * x ≤ length m

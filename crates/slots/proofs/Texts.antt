@@ -23,7 +23,7 @@ use Rattle.meaning.specs.WellFormed.{WellFormed}
 use Rattle.meaning.proofs.Changes.{grown}
 use Rattle.meaning.proofs.Facts.{length-concat}
 use Rattle.meaning.proofs.Packed.{rows-many, rows-wide}
-use Rattle.slots.specs.Head.{noTree}
+use Rattle.slots.specs.Head.{noTree, withNumbers}
 use Rattle.slots.specs.Change.{Image, emptiedN, cutN, plusN, riseN, grownN}
 use Rattle.slots.specs.Image.{textBytes, bodyOf, tableOf, headOf}
 use Rattle.slots.specs.declared.head.Head.{Head}
@@ -124,16 +124,7 @@ cut-image p w u h =
     let q = withText p (take u (p .text)) in
     let cut : List ℕ → ℕ → Image = λ m n. (
       m,
-      record {
-        slots = length (p .slots);
-        trees = length (p .trees);
-        live = liveCount p;
-        free = freeSlot p;
-        size = p .size;
-        used = n;
-        next = p .next;
-        table = tableOf 8 (p .trees);
-      },
+      record { numbers = withNumbers (headOf p .numbers) (liveCount p) (freeSlot p) n (p .next); table = tableOf 8 (p .trees) },
     ) in
     let shorter = cut (splice (bodyOf p) (32 * length (p .slots) + u) (none-of (used - u))) u in
     ap (λ (t : Bool). cond t (bodyOf p, headOf p) shorter) (le-ltb used u h)
@@ -185,5 +176,5 @@ pub empty-image : (p : Pool) → WellFormed p → emptiedN (bodyOf p) (headOf p)
 unfolding emptiedN headOf emptied withText withTrees liveCount freeSlot
 empty-image p w =
     ap₂ (λ (m : List ℕ) (h : Head). (m, h)) (empty-body p w)
-    (head-as (emptied p) _ _ 0 1 (replicate 8 noTree) (sym (length-map (p .slots) _)) (sym (length-map (p .trees) _)) (none-live (p .slots))
+    (head-as p (emptied p) 0 1 (replicate 8 noTree) (sym (length-map (p .slots) _)) (sym (length-map (p .trees) _)) refl (none-live (p .slots))
     (first-free (p .slots) (w .slots-low)) (empty-table 8 (p .trees)))

@@ -1,6 +1,6 @@
 -- What changes a pool under way, on its body and its head. Assumes nothing.
 use mathlib.Core.Bool.{cond}
-use mathlib.Core.List.{List, [], _∷_}
+use mathlib.Core.List.{List}
 use Prim.Native.Nat.{ℕ, _+_, _*_, _-_}
 use lib.Dec.{eqb, leb, ltb}
 use lib.ListN.{length, replicate}
@@ -11,7 +11,7 @@ use Rattle.tree.specs.Insert.{moreN, insertN}
 use Rattle.tree.specs.Remove.{lessN, removeN}
 use Rattle.tree.specs.declared.node.AvlTree.{AvlTree}
 use Rattle.slots.specs.Record.{fillN, clearN, lowestN}
-use Rattle.slots.specs.Head.{noTree, treeN, setTreeN}
+use Rattle.slots.specs.Head.{noTree, treeN, setTreeN, withNumbers}
 use Rattle.slots.specs.declared.record.Record.{Record}
 use Rattle.slots.specs.declared.head.Head.{Head}
 
@@ -30,16 +30,11 @@ hungN m t x v p d = insertN 14 (fillN m x v) t x p d
 
 unfoldable pub putRecN : List ℕ → Head → ℕ → Record → ℕ → Dir → Image
 putRecN m h x v p d =
+    let n = h .numbers in
     let o = hungN m (treeN (h .table) (v .tree)) x v p d in (
       o .0,
       record {
-        slots = h .slots;
-        trees = h .trees;
-        live = moreN (h .live);
-        free = freeAfterN (o .0) (h .slots) (h .free) x;
-        size = h .size;
-        used = h .used;
-        next = h .next;
+        numbers = withNumbers n (moreN (n .live)) (freeAfterN (o .0) (n .slots) (n .free) x) (n .used) (n .next);
         table = setTreeN (h .table) (v .tree) (o .1);
       },
     )
@@ -55,18 +50,10 @@ takenN m t x = let o = removeN 14 m t x in (clearN (o .0) x, o .1)
 
 unfoldable pub dropRecN : List ℕ → Head → ℕ → ℕ → Image
 dropRecN m h x t =
+    let n = h .numbers in
     let o = takenN m (treeN (h .table) t) x in (
       o .0,
-      record {
-        slots = h .slots;
-        trees = h .trees;
-        live = lessN (h .live);
-        free = freedN (h .free) x;
-        size = h .size;
-        used = h .used;
-        next = h .next;
-        table = setTreeN (h .table) t (o .1);
-      },
+      record { numbers = withNumbers n (lessN (n .live)) (freedN (n .free) x) (n .used) (n .next); table = setTreeN (h .table) t (o .1) },
     )
 
 -- ---- a new record with its name
@@ -79,22 +66,14 @@ riseN next = cond (eqb next 4_294_967_295) next (next + 1)
 
 unfoldable pub grownN : Head → ℕ → Head
 grownN h len =
-    record {
-      slots = h .slots;
-      trees = h .trees;
-      live = h .live;
-      free = h .free;
-      size = h .size;
-      used = plusN (h .used) len;
-      next = riseN (h .next);
-      table = h .table;
-    }
+    let n = h .numbers in
+    record { numbers = withNumbers n (n .live) (n .free) (plusN (n .used) len) (riseN (n .next)); table = h .table }
 
 -- the record v with its name, the part of the names from `from` on, at the end of the text
 unfoldable pub addRecN : List ℕ → Head → Record → List ℕ → ℕ → ℕ → Dir → Image
 addRecN m h v names from p d =
-    let named = splice m (32 * h .slots + h .used) (part names from (v .len)) in
-    putRecN named (grownN h (v .len)) (h .free) v p d
+    let named = splice m (32 * h .numbers .slots + h .numbers .used) (part names from (v .len)) in
+    putRecN named (grownN h (v .len)) (h .numbers .free) v p d
 
 -- ---- the whole
 
@@ -104,22 +83,14 @@ emptyTable = replicate 8 noTree
 unfoldable pub emptiedN : List ℕ → Head → Image
 emptiedN m h = (
   splice m 0 (replicate (length m) 0),
-  record { slots = h .slots; trees = h .trees; live = 0; free = 1; size = h .size; used = 0; next = h .next; table = emptyTable },
+  record { numbers = withNumbers (h .numbers) 0 1 0 (h .numbers .next); table = emptyTable },
 )
 
 unfoldable pub cutN : List ℕ → Head → ℕ → Image
 cutN m h used =
+    let n = h .numbers in
     let shorter : Image = (
-      splice m (32 * h .slots + used) (replicate (h .used - used) 0),
-      record {
-        slots = h .slots;
-        trees = h .trees;
-        live = h .live;
-        free = h .free;
-        size = h .size;
-        used = used;
-        next = h .next;
-        table = h .table;
-      },
+      splice m (32 * n .slots + used) (replicate (n .used - used) 0),
+      record { numbers = withNumbers n (n .live) (n .free) used (n .next); table = h .table },
     ) in
-    cond (ltb (h .used) used) (m, h) shorter
+    cond (ltb (n .used) used) (m, h) shorter

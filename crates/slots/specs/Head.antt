@@ -7,6 +7,7 @@ use lib.ListN.{getD, set}
 use Rattle.fields.specs.Number.{getLE, putLE}
 use Rattle.tree.specs.declared.node.AvlTree.{AvlTree}
 use Rattle.slots.specs.declared.head.Head.{Head}
+use Rattle.slots.specs.declared.head.Numbers.{Numbers}
 
 abbrev pub noTree : AvlTree
 noTree = record { root = 0; count = 0 }
@@ -22,15 +23,14 @@ unfoldable pub loadN : List ℕ → ℕ → ℕ → Head
 loadN b live free =
     let T = getLE 2 b 4 in
     record {
-      slots = getLE 2 b 2;
-      trees = T;
-      live = live;
-      free = free;
-      size = getLE 4 b 20;
-      used = getLE 4 b 24;
-      next = getLE 4 b 28;
+      numbers = record { slots = getLE 2 b 2; trees = T; live = live; free = free; size = getLE 4 b 20; used = getLE 4 b 24; next = getLE 4 b 28 };
       table = tableN b T;
     }
+
+-- the numbers with those that a change may set; the sizes stay
+abbrev pub withNumbers : Numbers → ℕ → ℕ → ℕ → ℕ → Numbers
+withNumbers n live free used next =
+    record { slots = n .slots; trees = n .trees; live = live; free = free; size = n .size; used = used; next = next }
 
 unfoldable pub putEntryN : List ℕ → ℕ → ℕ → AvlTree → List ℕ
 putEntryN b T i v = cond (leb T i) b (putLE 2 (putLE 2 b (32 + 8 * i) (v .root)) (32 + 8 * i + 2) (v .count))
@@ -44,7 +44,7 @@ abbrev eight : List AvlTree → List AvlTree
 eight ts = getD ts 0 noTree ∷ getD ts 1 noTree ∷ getD ts 2 noTree ∷ getD ts 3 noTree ∷ getD ts 4 noTree ∷ getD ts 5 noTree ∷ getD ts 6 noTree ∷ getD ts 7 noTree ∷ []
 
 unfoldable pub storeN : List ℕ → Head → List ℕ
-storeN b h = putTableN (putLE 4 (putLE 4 (putLE 2 b 6 (h .live)) 24 (h .used)) 28 (h .next)) (h .trees) 0 (eight (h .table))
+storeN b h = putTableN (putLE 4 (putLE 4 (putLE 2 b 6 (h .numbers .live)) 24 (h .numbers .used)) 28 (h .numbers .next)) (h .numbers .trees) 0 (eight (h .table))
 
 -- tree t, an empty one for a number that is no tree's
 unfoldable pub treeN : List AvlTree → ℕ → AvlTree

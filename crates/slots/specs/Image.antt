@@ -35,13 +35,15 @@ tableOf (suc n) (t ∷ ts) = treeOf t (length (list left t)) ∷ tableOf n ts
 unfoldable pub headOf : Pool → Head
 headOf p =
     record {
-      slots = length (p .slots);
-      trees = length (p .trees);
-      live = liveCount p;
-      free = freeSlot p;
-      size = p .size;
-      used = length (p .text);
-      next = p .next;
+      numbers = record {
+        slots = length (p .slots);
+        trees = length (p .trees);
+        live = liveCount p;
+        free = freeSlot p;
+        size = p .size;
+        used = length (p .text);
+        next = p .next;
+      };
       table = tableOf 8 (p .trees);
     }
 

@@ -1,18 +1,18 @@
-// What changes a pool: a record into a slot and its tree and out of both, a new record with its name,
+// What changes a pool: a record into a slot and its tree and out of both, a new record's name and stamp,
 // reset, and the text cut back. The steps on the body and on single numbers are public too.
 ghost use mathlib.Core.Path.{_≡_};
 ghost use Prim.Native.Nat.{_+_, _*_};
 ghost use Rattle.fields.specs.Part.{part, splice};
 ghost use Rattle.tree.specs.Node.{way};
-ghost use Rattle.slots.specs.Change.{freeAfterN, freedN, hungN, putRecN, takenN, dropRecN, plusN, riseN, grownN, addRecN, emptiedN, cutN};
+ghost use Rattle.slots.specs.Change.{freeAfterN, freedN, hungN, putRecN, takenN, dropRecN, plusN, riseN, emptiedN, cutN};
 use super::head::Head;
+use super::head::Numbers;
 use super::head::set_tree;
 use super::record::Record;
 use super::record::clear;
 use super::record::fill;
 use super::record::lowest;
 use tree::dir::Dir;
-use tree::insert::Spot;
 use tree::insert::insert;
 use tree::insert::more;
 use tree::node::AvlTree;
@@ -44,17 +44,16 @@ pub fn put_rec(body: &mut [u8], h: Head, x: u16, v: Record, p: u16, d: Dir) -> H
     ensures { λ r. ⌜ (now (body .exit), r) ≡ putRecN (now (body .entry)) h x v p (way (d .0)) ⌝ }
 {
     let t = hang_in(body, h.tree(v.tree), x, v, p, d);
-    let free = free_after(body, h.slots, h.free, x);
+    let n = h.numbers;
+    let free = free_after(body, n.slots, n.free, x);
     let ts = h.table;
     let us = set_tree(ts, v.tree, t);
     Head {
-        slots: h.slots,
-        trees: h.trees,
-        live: more(h.live),
-        free,
-        size: h.size,
-        used: h.used,
-        next: h.next,
+        numbers: Numbers {
+            live: more(n.live),
+            free,
+            ..n
+        },
         table: us,
     }
 }
@@ -88,27 +87,29 @@ pub fn drop_rec(body: &mut [u8], h: Head, x: u16, t: u8) -> Head
     ensures { λ r. ⌜ (now (body .exit), r) ≡ dropRecN (now (body .entry)) h x t ⌝ }
 {
     let u = take(body, h.tree(t), x);
+    let n = h.numbers;
     let ts = h.table;
     let us = set_tree(ts, t, u);
     Head {
-        slots: h.slots,
-        trees: h.trees,
-        live: less(h.live),
-        free: freed(h.free, x),
-        size: h.size,
-        used: h.used,
-        next: h.next,
+        numbers: Numbers {
+            live: less(n.live),
+            free: freed(n.free, x),
+            ..n
+        },
         table: us,
     }
 }
 
-// ---- a new record with its name
+// ---- a new record's name and stamp
+
+// From here on a name of 65,535 bytes more might wrap.
+const NEARLY_FULL: u32 = 4_294_901_760;
 
 // Text used after a name of len bytes more; sums that would wrap stay.
 pub fn plus(used: u32, len: u16) -> u32
     ensures { λ r. ⌜ r ≡ plusN used len ⌝ }
 {
-    if 4_294_901_760 <= used {
+    if NEARLY_FULL <= used {
         return used;
     }
     used + len as u32
@@ -118,27 +119,10 @@ pub fn plus(used: u32, len: u16) -> u32
 pub fn rise(next: u32) -> u32
     ensures { λ r. ⌜ r ≡ riseN next ⌝ }
 {
-    if next == 4_294_967_295 {
+    if next == format::limit::LAST_STAMP {
         return next;
     }
     next + 1
-}
-
-// The head with a name of len bytes more and the next stamp taken.
-fn grown(h: Head, len: u16) -> Head
-    ensures { λ r. ⌜ r ≡ grownN h len ⌝ }
-{
-    let ts = h.table;
-    Head {
-        slots: h.slots,
-        trees: h.trees,
-        live: h.live,
-        free: h.free,
-        size: h.size,
-        used: plus(h.used, len),
-        next: rise(h.next),
-        table: ts,
-    }
 }
 
 // Copies the len bytes of the names from `from` on into the body, if they lie within the names.
@@ -151,22 +135,6 @@ pub fn append_name(body: &mut [u8], at: usize, names: &[u8], from: usize, len: u
     fields::copy_in(body, at, &names[from..from + len]);
 }
 
-// A new record: the lowest free slot, the record v, its name at text used, the next stamp.
-pub fn add_rec(body: &mut [u8], h: Head, v: Record, names: &[u8], from: u32, s: Spot) -> Head
-    ensures { λ r. ⌜ (now (body .exit), r) ≡ addRecN (now (body .entry)) h v (now (names .entry)) from (s .parent) (way (s .side .0)) ⌝ }
-{
-    append_name(
-        body,
-        32 * (h.slots as usize) + h.used as usize,
-        names,
-        from as usize,
-        v.len as usize,
-    );
-    let g = grown(h, v.len);
-    let d = s.side;
-    put_rec(body, g, h.free, v, s.parent, d)
-}
-
 // ---- the whole
 
 // Every record free, every tree empty, no text. The next stamp stays.
@@ -174,14 +142,14 @@ pub fn reset(body: &mut [u8], h: Head) -> Head
     ensures { λ r. ⌜ (now (body .exit), r) ≡ emptiedN (now (body .entry)) h ⌝ }
 {
     fields::zero_out(body, 0, body.len());
+    let n = h.numbers;
     Head {
-        slots: h.slots,
-        trees: h.trees,
-        live: 0,
-        free: 1,
-        size: h.size,
-        used: 0,
-        next: h.next,
+        numbers: Numbers {
+            live: 0,
+            free: 1,
+            used: 0,
+            ..n
+        },
         table: [AvlTree { root: 0, count: 0 }; 8],
     }
 }
@@ -190,24 +158,17 @@ pub fn reset(body: &mut [u8], h: Head) -> Head
 pub fn cut(body: &mut [u8], h: Head, used: u32) -> Head
     ensures { λ r. ⌜ (now (body .exit), r) ≡ cutN (now (body .entry)) h used ⌝ }
 {
-    if h.used < used {
+    let n = h.numbers;
+    if n.used < used {
         return h;
     }
     fields::zero_out(
         body,
-        32 * (h.slots as usize) + used as usize,
-        (h.used - used) as usize,
+        format::record::SIZE * (n.slots as usize) + used as usize,
+        (n.used - used) as usize,
     );
-    let ts = h.table;
-    let next = h.next;
     Head {
-        slots: h.slots,
-        trees: h.trees,
-        live: h.live,
-        free: h.free,
-        size: h.size,
-        used,
-        next,
-        table: ts,
+        numbers: Numbers { used, ..n },
+        ..h
     }
 }

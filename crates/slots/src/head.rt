@@ -1,9 +1,13 @@
 // The header's numbers and the tree table, by value.
 ghost use mathlib.Core.Path.{_≡_};
 ghost use Rattle.slots.specs.Head.{noTree, entryN, loadN, putEntryN, storeN, treeN, setTreeN};
+use format::entry;
+use format::header;
+use format::limit;
 use tree::node::AvlTree;
 
-pub struct Head {
+// The header's numbers. Its fields fill it, so that a copy moves no padding.
+pub struct Numbers {
     // N and T
     pub slots: u16,
     pub trees: u16,
@@ -15,6 +19,10 @@ pub struct Head {
     pub used: u32,
     // the next stamp
     pub next: u32,
+}
+
+pub struct Head {
+    pub numbers: Numbers,
     // the trees, from tree 1 on; an empty one beyond T
     pub table: [AvlTree; 8],
 }
@@ -32,10 +40,10 @@ fn entry_at(pool: &[u8], t: u16, i: u16) -> AvlTree
     if t <= i {
         return no_tree();
     }
-    let at = 32 + 8 * (i as usize);
+    let at = header::SIZE + entry::SIZE * (i as usize);
     AvlTree {
-        root: fields::get_u16(pool, at),
-        count: fields::get_u16(pool, at + 2),
+        root: fields::get_u16(pool, at + entry::ROOT),
+        count: fields::get_u16(pool, at + entry::COUNT),
     }
 }
 
@@ -43,15 +51,18 @@ fn entry_at(pool: &[u8], t: u16, i: u16) -> AvlTree
 pub fn load(pool: &[u8], live: u16, free: u16) -> Head
     ensures { λ r. ⌜ r ≡ loadN (now (pool .entry)) live free ⌝ }
 {
-    let t = fields::get_u16(pool, 4);
-    Head {
-        slots: fields::get_u16(pool, 2),
+    let t = fields::get_u16(pool, header::TREES);
+    let n = Numbers {
+        slots: fields::get_u16(pool, header::SLOTS),
         trees: t,
         live,
         free,
-        size: fields::get_u32(pool, 20),
-        used: fields::get_u32(pool, 24),
-        next: fields::get_u32(pool, 28),
+        size: fields::get_u32(pool, header::TEXT_SIZE),
+        used: fields::get_u32(pool, header::TEXT_USED),
+        next: fields::get_u32(pool, header::NEXT_STAMP),
+    };
+    Head {
+        numbers: n,
         table: [
             entry_at(pool, t, 0),
             entry_at(pool, t, 1),
@@ -72,27 +83,28 @@ fn put_entry(pool: &mut [u8], t: u16, i: u16, v: AvlTree)
     if t <= i {
         return;
     }
-    let at = 32 + 8 * (i as usize);
-    fields::put_u16(pool, at, v.root);
-    fields::put_u16(pool, at + 2, v.count);
+    let at = header::SIZE + entry::SIZE * (i as usize);
+    fields::put_u16(pool, at + entry::ROOT, v.root);
+    fields::put_u16(pool, at + entry::COUNT, v.count);
 }
 
 // Stores what a batch may change of the header, and the tree table.
 pub fn store(pool: &mut [u8], h: Head)
     ensures { λ _. ⌜ now (pool .exit) ≡ storeN (now (pool .entry)) h ⌝ }
 {
+    let n = h.numbers;
     let ts = h.table;
-    fields::put_u16(pool, 6, h.live);
-    fields::put_u32(pool, 24, h.used);
-    fields::put_u32(pool, 28, h.next);
-    put_entry(pool, h.trees, 0, ts[0]);
-    put_entry(pool, h.trees, 1, ts[1]);
-    put_entry(pool, h.trees, 2, ts[2]);
-    put_entry(pool, h.trees, 3, ts[3]);
-    put_entry(pool, h.trees, 4, ts[4]);
-    put_entry(pool, h.trees, 5, ts[5]);
-    put_entry(pool, h.trees, 6, ts[6]);
-    put_entry(pool, h.trees, 7, ts[7]);
+    fields::put_u16(pool, header::LIVE, n.live);
+    fields::put_u32(pool, header::TEXT_USED, n.used);
+    fields::put_u32(pool, header::NEXT_STAMP, n.next);
+    put_entry(pool, n.trees, 0, ts[0]);
+    put_entry(pool, n.trees, 1, ts[1]);
+    put_entry(pool, n.trees, 2, ts[2]);
+    put_entry(pool, n.trees, 3, ts[3]);
+    put_entry(pool, n.trees, 4, ts[4]);
+    put_entry(pool, n.trees, 5, ts[5]);
+    put_entry(pool, n.trees, 6, ts[6]);
+    put_entry(pool, n.trees, 7, ts[7]);
 }
 
 impl Head {
@@ -103,7 +115,7 @@ impl Head {
         if t == 0 {
             return no_tree();
         }
-        if 8 < t {
+        if limit::LAST_TREE < t {
             return no_tree();
         }
         let ts = self.table;
@@ -119,7 +131,7 @@ pub fn set_tree(table: [AvlTree; 8], t: u8, v: AvlTree) -> [AvlTree; 8]
     if t == 0 {
         return ts;
     }
-    if 8 < t {
+    if limit::LAST_TREE < t {
         return ts;
     }
     ts[t as usize - 1] = v;

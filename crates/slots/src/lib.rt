@@ -12,8 +12,8 @@
 // |------------|-------------------------------------------------------------------------------|
 // | record.rt  | a record's own fields read and written, a record cleared, the lowest free slot |
 // | head.rt    | the head read from a pool and stored into it, a tree of the table              |
-// | change.rt  | a record into a slot and its tree and out of both, a new record with its name, |
-// |            | reset, the text cut back                                                       |
+// | change.rt  | a record into a slot and its tree and out of both, a new record's name and     |
+// |            | stamp, reset, the text cut back                                                |
 // | answer.rt  | an answer written                                                              |
 pub mod answer;
 pub mod change;

@@ -2,6 +2,7 @@
 ghost use mathlib.Core.Path.{_≡_};
 ghost use Prim.Native.Nat.{_-_, _<_};
 ghost use Rattle.slots.specs.Record.{noRecord, recordN, fillN, clearN, lowestN};
+use format::record;
 
 pub struct Record {
     pub key: u64,
@@ -29,13 +30,13 @@ fn part_record(body: &[u8], x: u16) -> Record
     requires { ⌜ 0 < x ⌝ }
     ensures { λ r. ⌜ r ≡ recordN (now (body .entry)) x ⌝ }
 {
-    let at = 32 * (x as usize - 1);
+    let at = record::SIZE * (x as usize - 1);
     Record {
-        key: fields::get_u64(body, at),
-        stamp: fields::get_u32(body, at + 16),
-        start: fields::get_u32(body, at + 20),
-        len: fields::get_u16(body, at + 24),
-        tree: fields::get_u8(body, at + 15),
+        key: fields::get_u64(body, at + record::KEY),
+        stamp: fields::get_u32(body, at + record::STAMP),
+        start: fields::get_u32(body, at + record::NAME_START),
+        len: fields::get_u16(body, at + record::NAME_LEN),
+        tree: fields::get_u8(body, at + record::TREE),
     }
 }
 
@@ -46,18 +47,18 @@ pub fn record_at(body: &[u8], x: u16) -> Record
     if x == 0 {
         return nothing();
     }
-    let end = 32 * (x as usize);
+    let end = record::SIZE * (x as usize);
     if body.len() < end {
         return part_record(body, x);
     }
-    let at = end - 32;
+    let at = end - record::SIZE;
     let slot = &body[at..end];
     Record {
-        key: fields::get_u64(slot, 0),
-        stamp: fields::get_u32(slot, 16),
-        start: fields::get_u32(slot, 20),
-        len: fields::get_u16(slot, 24),
-        tree: fields::get_u8(slot, 15),
+        key: fields::get_u64(slot, record::KEY),
+        stamp: fields::get_u32(slot, record::STAMP),
+        start: fields::get_u32(slot, record::NAME_START),
+        len: fields::get_u16(slot, record::NAME_LEN),
+        tree: fields::get_u8(slot, record::TREE),
     }
 }
 
@@ -67,12 +68,12 @@ fn part_fill(body: &mut [u8], x: u16, v: Record)
     requires { ⌜ 0 < x ⌝ }
     ensures { λ _. ⌜ now (body .exit) ≡ fillN (now (body .entry)) x v ⌝ }
 {
-    let at = 32 * (x as usize - 1);
-    fields::put_u64(body, at, v.key);
-    fields::put_u8(body, at + 15, v.tree);
-    fields::put_u32(body, at + 16, v.stamp);
-    fields::put_u32(body, at + 20, v.start);
-    fields::put_u16(body, at + 24, v.len);
+    let at = record::SIZE * (x as usize - 1);
+    fields::put_u64(body, at + record::KEY, v.key);
+    fields::put_u8(body, at + record::TREE, v.tree);
+    fields::put_u32(body, at + record::STAMP, v.stamp);
+    fields::put_u32(body, at + record::NAME_START, v.start);
+    fields::put_u16(body, at + record::NAME_LEN, v.len);
 }
 
 // Writes a record's own fields into slot x. Its links are left.
@@ -82,18 +83,18 @@ pub fn fill(body: &mut [u8], x: u16, v: Record)
     if x == 0 {
         return;
     }
-    let end = 32 * (x as usize);
+    let end = record::SIZE * (x as usize);
     if body.len() < end {
         part_fill(body, x, v);
         return;
     }
-    let at = end - 32;
+    let at = end - record::SIZE;
     let slot = &mut body[at..end];
-    fields::put_u64(slot, 0, v.key);
-    fields::put_u8(slot, 15, v.tree);
-    fields::put_u32(slot, 16, v.stamp);
-    fields::put_u32(slot, 20, v.start);
-    fields::put_u16(slot, 24, v.len);
+    fields::put_u64(slot, record::KEY, v.key);
+    fields::put_u8(slot, record::TREE, v.tree);
+    fields::put_u32(slot, record::STAMP, v.stamp);
+    fields::put_u32(slot, record::NAME_START, v.start);
+    fields::put_u16(slot, record::NAME_LEN, v.len);
 }
 
 // Zeroes the 32 bytes of slot x.
@@ -103,7 +104,7 @@ pub fn clear(body: &mut [u8], x: u16)
     if x == 0 {
         return;
     }
-    fields::zero_out(body, 32 * (x as usize - 1), 32);
+    fields::zero_out(body, record::SIZE * (x as usize - 1), record::SIZE);
 }
 
 // The lowest free slot above `from` and up to n, 0 for none.
@@ -112,7 +113,7 @@ pub fn lowest(body: &[u8], from: u16, n: u16) -> u16
 {
     let mut at = from;
     while at < n {
-        if fields::get_u8(body, 32 * (at as usize) + 15) == 0 {
+        if fields::get_u8(body, record::SIZE * (at as usize) + record::TREE) == 0 {
             return at + 1;
         }
         at += 1;

@@ -11,7 +11,7 @@ use borrow.Author.Tests.{eq-eqb, ne-eqb, eqb-true, leb-true, leb-false, lt-ltb, 
 use Rattle.avl.specs.Tree.{Dir, left, right, alike}
 use Rattle.avl.specs.Search.{three}
 use Rattle.tree.specs.Node.{way, child, parent, getN, nodeN, sideN}
-use Rattle.tree.specs.Walk.{bottomN, upN}
+use Rattle.tree.specs.Walk.{levels, bottomN, upN}
 use Rattle.tree.specs.Search.{Ending, seekN}
 use Rattle.tree.specs.Rotate.{Store}
 use Rattle.tree.specs.declared.node.AvlTree.{AvlTree}
@@ -93,19 +93,19 @@ three-ne {A} m k a b c z = go (compare m k) refl
     go Ordering·eq e = absurd (z (eqb-true m k (ap isEq e)))
     go Ordering·gt e = let h : k < m = leb-false m k (ap isLe e) in simp (le-ltb m k (omega arith))
 
--- what is left of a search ends at z, in at most 14 comparisons
+-- what is left of a search ends at z, in at most so many comparisons as a tree has levels
 pub record Seeking (m : List ℕ) (key : ℕ) (z : Ending) (x p : ℕ) (e : Dir) (n : ℕ) : Type 0 where
-  pub same : seekN (14 - n) m key x p e n ≡ z
-  pub most : n ≤ 14
+  pub same : seekN (levels - n) m key x p e n ≡ z
+  pub most : n ≤ levels
 
 module _ {m : List ℕ} {key : ℕ} {z : Ending} {x p : ℕ} {e : Dir} {n : ℕ} (s : Seeking m key z x p e n) where
-  pub seek-end : n ≡ 14 → record { slot = 0; above = p; side = e; compared = n } ≡ z
+  pub seek-end : n ≡ levels → record { slot = 0; above = p; side = e; compared = n } ≡ z
   unfolding seekN
-  seek-end v = let q : 14 - n ≡ 0 = omega arith in rw q at (s .same)
+  seek-end v = let q : levels - n ≡ 0 = omega arith in rw q at (s .same)
 
-  module _ (v : n ≡ 14 → ⊥) where
-    turn : seekN (suc (14 - suc n)) m key x p e n ≡ z
-    turn = let q : 14 - n ≡ suc (14 - suc n) = omega (arith, s .most) in rw q at (s .same)
+  module _ (v : n ≡ levels → ⊥) where
+    turn : seekN (suc (levels - suc n)) m key x p e n ≡ z
+    turn = let q : levels - n ≡ suc (levels - suc n) = omega (arith, s .most) in rw q at (s .same)
 
     pub seek-none : x ≡ 0 → record { slot = 0; above = p; side = e; compared = n } ≡ z
     unfolding seekN
@@ -116,7 +116,7 @@ module _ {m : List ℕ} {key : ℕ} {z : Ending} {x p : ℕ} {e : Dir} {n : ℕ}
       here = record { slot = x; above = p; side = e; compared = suc n }
 
       below : Dir → Ending
-      below d = seekN (14 - suc n) m key (getN m x (child d)) x d (suc n)
+      below d = seekN (levels - suc n) m key (getN m x (child d)) x d (suc n)
 
       compared : three (compare key (y .key)) (below left) here (below right) ≡ z
       unfolding seekN nodeN here below

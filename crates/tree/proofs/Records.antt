@@ -12,7 +12,7 @@ use Rattle.avl.specs.Edit.{beside, insertHere}
 use Rattle.avl.specs.Search.{entry, compared, add, removeByKey, walkDir}
 use Rattle.avl.specs.Order.{byKey, first}
 use Rattle.avl.proofs.Search.{seek-plug}
-use Rattle.tree.specs.Walk.{bottomN, walkN}
+use Rattle.tree.specs.Walk.{levels, bottomN, walkN}
 use Rattle.tree.specs.Search.{seekN}
 use Rattle.tree.specs.Insert.{moreN, linkN, insertN, besideN, insertHereN}
 use Rattle.tree.specs.Remove.{lessN, removeN}
@@ -73,52 +73,52 @@ module _ (k : ℕ → Links) (c : ℕ → Cargo) (N : ℕ) (tail : List ℕ) (ro
   edited t u n₂ g f h e = ap g (sym (rows-held t f)) ∙ e ∙ ap (λ (y : List ℕ). (y, treeOf u n₂)) (rows-held u h)
 
   -- entry and get: the search ends where that in the tree does, after as many keys
-  pub entry-rows : (key : ℕ) (cmp : ℕ → Ordering) (t : Tree) → Fits N t → height t ≤ 14 → ((s : ℕ) → 1 ≤ times s t → byKey (λ x. c x .key) key s ≡ cmp s)
-      → seekN 14 (holding t k c N tail) key (top t) 0 right 0 ≡ ending (entry cmp t) (compared cmp t)
+  pub entry-rows : (key : ℕ) (cmp : ℕ → Ordering) (t : Tree) → Fits N t → height t ≤ levels → ((s : ℕ) → 1 ≤ times s t → byKey (λ x. c x .key) key s ≡ cmp s)
+      → seekN levels (holding t k c N tail) key (top t) 0 right 0 ≡ ending (entry cmp t) (compared cmp t)
   entry-rows key cmp t f h e =
-      ap (λ y. seekN 14 y key (top t) 0 right 0) (sym (rows-held t f))
+      ap (λ y. seekN levels y key (top t) 0 right 0) (sym (rows-held t f))
       ∙ entry-held key cmp t bare roomy f h
       (λ s i. let j = slot-in t s f i in ap (λ (y : ℕ). compare key y) (key-section k c N s tail (rows .whole) (j .0) (j .1) (rows .keys-high s)) ∙ e s i)
 
   -- first and last
-  pub end-rows : (d : Dir) (t : Tree) → Fits N t → height t ≤ 14 → bottomN 14 (holding t k c N tail) (top t) d ≡ first (list d t)
-  end-rows d t f h = ap (λ y. bottomN 14 y (top t) d) (sym (rows-held t f)) ∙ end-held bare roomy d t f h
+  pub end-rows : (d : Dir) (t : Tree) → Fits N t → height t ≤ levels → bottomN levels (holding t k c N tail) (top t) d ≡ first (list d t)
+  end-rows d t f h = ap (λ y. bottomN levels y (top t) d) (sym (rows-held t f)) ∙ end-held bare roomy d t f h
 
   -- walk_dir
   pub walk-rows : (d : Dir) (a : Tree) (s : ℕ) (b : Bal) (z : Tree) (p : Way) → let t = plug p (branch d a s b z) in
-      Fits N t → height t ≤ 14 → walkN 14 (holding t k c N tail) s d ≡ walkDir d a p
-  walk-rows d a s b z p f h = ap (λ y. walkN 14 y s d) (sym (rows-held _ f)) ∙ walk-held bare roomy d a s b z p f h
+      Fits N t → height t ≤ levels → walkN levels (holding t k c N tail) s d ≡ walkDir d a p
+  walk-rows d a s b z p f h = ap (λ y. walkN levels y s d) (sym (rows-held _ f)) ∙ walk-held bare roomy d a s b z p f h
 
   -- beside: the empty place next to a record
   pub beside-rows : (d : Dir) (a : Tree) (s : ℕ) (b : Bal) (z : Tree) (p : Way) → let t = plug p (branch d a s b z) in
-      Fits N t → height t ≤ 14 → besideN 14 (holding t k c N tail) s d ≡ (above (beside d a s b z p), side (beside d a s b z p))
-  beside-rows d a s b z p f h = ap (λ y. besideN 14 y s d) (sym (rows-held _ f)) ∙ beside-held bare roomy d a s b z p f h
+      Fits N t → height t ≤ levels → besideN levels (holding t k c N tail) s d ≡ (above (beside d a s b z p), side (beside d a s b z p))
+  beside-rows d a s b z p f h = ap (λ y. besideN levels y s d) (sym (rows-held _ f)) ∙ beside-held bare roomy d a s b z p f h
 
   -- add, where the search has found a place for a record that is in no tree
-  pub add-rows : (cmp : ℕ → Ordering) (t : Tree) (x n : ℕ) → entry cmp t .part ≡ leaf → Fits N t → New N t x → Balanced t → height t ≤ 14 → k x ≡ unlinked
-      → insertN 14 (holding t k c N tail) (treeOf t n) x (above (entry cmp t .way)) (side (entry cmp t .way))
+  pub add-rows : (cmp : ℕ → Ordering) (t : Tree) (x n : ℕ) → entry cmp t .part ≡ leaf → Fits N t → New N t x → Balanced t → height t ≤ levels → k x ≡ unlinked
+      → insertN levels (holding t k c N tail) (treeOf t n) x (above (entry cmp t .way)) (side (entry cmp t .way))
       ≡ (holding (add cmp x t) k c N tail, treeOf (add cmp x t) (moreN n))
   add-rows cmp t x n vacant f g i h e =
-      edited t (add cmp x t) (moreN n) (λ y. insertN 14 y (treeOf t n) x (above (entry cmp t .way)) (side (entry cmp t .way))) f (fits-add cmp t x vacant g)
+      edited t (add cmp x t) (moreN n) (λ y. insertN levels y (treeOf t n) x (above (entry cmp t .way)) (side (entry cmp t .way))) f (fits-add cmp t x vacant g)
       (add-held bare roomy cmp t x n vacant g i h (blank t x g e))
 
   -- insert_here
   pub insert-here-rows : (d : Dir) (a : Tree) (s : ℕ) (b : Bal) (z : Tree) (p : Way) (x n : ℕ) → let t = plug p (branch d a s b z) in
-      Fits N t → New N t x → Balanced t → height t ≤ 14 → k x ≡ unlinked
-      → insertHereN 14 (holding t k c N tail) (treeOf t n) x s d ≡ (holding (insertHere d a s b z p x) k c N tail, treeOf (insertHere d a s b z p x) (moreN n))
+      Fits N t → New N t x → Balanced t → height t ≤ levels → k x ≡ unlinked
+      → insertHereN levels (holding t k c N tail) (treeOf t n) x s d ≡ (holding (insertHere d a s b z p x) k c N tail, treeOf (insertHere d a s b z p x) (moreN n))
   insert-here-rows d a s b z p x n f g i h e =
       let t = plug p (branch d a s b z) in
-      edited t (insertHere d a s b z p x) (moreN n) (λ y. insertHereN 14 y (treeOf t n) x s d) f (fits-insert-here d a s b z p x g)
+      edited t (insertHere d a s b z p x) (moreN n) (λ y. insertHereN levels y (treeOf t n) x s d) f (fits-insert-here d a s b z p x g)
       (insert-here-held bare roomy d a s b z p x n f g i h (blank t x g e))
 
   -- remove: its record's links end as those of a record in no tree
   pub remove-rows : (cmp : ℕ → Ordering) (t : Tree) (n : ℕ) {l : Tree} {s : ℕ} {b : Bal} {r : Tree} → entry cmp t .part ≡ node l s b r → Fits N t → Balanced t
-      → height t ≤ 14 → k s ≡ unlinked → removeN 14 (holding t k c N tail) (treeOf t n) s ≡ (holding (removeByKey cmp t) k c N tail, treeOf (removeByKey cmp t) (lessN n))
+      → height t ≤ levels → k s ≡ unlinked → removeN levels (holding t k c N tail) (treeOf t n) s ≡ (holding (removeByKey cmp t) k c N tail, treeOf (removeByKey cmp t) (lessN n))
   unfolding entry plug
   remove-rows cmp t n {l} {s} {b} {r} found f i h e =
       let p = entry cmp t .way in
       let q : plug p (node l s b r) ≡ t = ap (plug p) (sym found) ∙ seek-plug cmp t root in
       let j = slot-in t s f (subst (λ (y : Tree). 1 ≤ times s y) q (stands l s b r p)) in
       let same : clear bare s ≡ bare = blank-section k c N s tail (rows .whole) (j .0) (j .1) e in
-      edited t (removeByKey cmp t) (lessN n) (λ y. removeN 14 y (treeOf t n) s) f (fits-remove-by-key cmp t found f)
+      edited t (removeByKey cmp t) (lessN n) (λ y. removeN levels y (treeOf t n) s) f (fits-remove-by-key cmp t found f)
       (remove-by-key-held bare roomy cmp t n found f i h ∙ ap (held (removeByKey cmp t) (lessN n)) same)

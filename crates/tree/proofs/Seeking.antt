@@ -9,6 +9,7 @@ use Rattle.avl.specs.Way.{Way, root, step, above, side}
 use Rattle.avl.specs.Search.{Spot, three, seek, entry, compared}
 use Rattle.avl.specs.Order.{byKey}
 use Rattle.tree.specs.Node.{child, getN, keyN}
+use Rattle.tree.specs.Walk.{levels}
 use Rattle.tree.specs.Search.{Ending, seekN}
 use Rattle.tree.specs.Held.{over, times, Roomy, Fits}
 use Rattle.tree.proofs.Links.{key-over}
@@ -72,9 +73,9 @@ seek-at (suc k) key cmp p (node l s b z) m n r h i f =
     (seek-part k key right z s b l p m (suc n) h (seek-at k key cmp (step right s b l p) z m (suc n) r w (omega arith) (λ x j. f x (omega arith))))
 
 -- and so does the search of `entry`, from the root
-pub entry-held : {N : ℕ} (key : ℕ) (cmp : ℕ → Ordering) (t : Tree) (m : List ℕ) → Roomy N m → Fits N t → height t ≤ 14
-    → ((s : ℕ) → 1 ≤ times s t → byKey (keyN m) key s ≡ cmp s) → seekN 14 (over t 0 m) key (top t) 0 right 0 ≡ ending (entry cmp t) (compared cmp t)
+pub entry-held : {N : ℕ} (key : ℕ) (cmp : ℕ → Ordering) (t : Tree) (m : List ℕ) → Roomy N m → Fits N t → height t ≤ levels
+    → ((s : ℕ) → 1 ≤ times s t → byKey (keyN m) key s ≡ cmp s) → seekN levels (over t 0 m) key (top t) 0 right 0 ≡ ending (entry cmp t) (compared cmp t)
 unfolding at around entry timesW
 entry-held {N} key cmp t m r h i f =
     let q : Placed N root t = record { once = λ x. omega (arith, h .once x) } in
-    seek-at 14 key cmp root t m 0 r q i f ∙ ap (ending (entry cmp t)) (omega arith)
+    seek-at levels key cmp root t m 0 r q i f ∙ ap (ending (entry cmp t)) (omega arith)

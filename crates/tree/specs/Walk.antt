@@ -6,6 +6,10 @@ use lib.Dec.{eqb}
 use Rattle.avl.specs.Tree.{Dir, flip, alike}
 use Rattle.tree.specs.Node.{child, parent, getN, sideN}
 
+-- a tree of 1,024 records has at most so many levels: `levels-14` of `avl`
+abbrev pub levels : ℕ
+levels = 14
+
 -- the last record on side d, from s on
 unfoldable pub bottomN : ℕ → List ℕ → ℕ → Dir → ℕ
 bottomN zero m s d = s

@@ -3,6 +3,8 @@ ghost use mathlib.Core.Path.{_≡_};
 ghost use mathlib.Core.Bool.{true, false};
 ghost use Rattle.avl.specs.Tree.{flip, alike, toBalance};
 ghost use Rattle.tree.specs.Node.{way, offset, child};
+use format::balance;
+use format::link;
 
 // false is left
 pub struct Dir(pub bool);
@@ -21,7 +23,7 @@ impl Dir {
     pub fn to_balance(self) -> u8
         ensures { λ r. ⌜ r ≡ toBalance (way (self .0)) ⌝ }
     {
-        2 - (self.0 as u8)
+        balance::LEFT - (self.0 as u8)
     }
 
     // Whether the two are the same side.
@@ -35,6 +37,6 @@ impl Dir {
     pub fn field(self) -> u8
         ensures { λ r. ⌜ r ≡ offset (child (way (self .0))) ⌝ }
     {
-        if self.0 { 10 } else { 8 }
+        if self.0 { link::RIGHT } else { link::LEFT }
     }
 }

@@ -39,6 +39,7 @@
 // | _remove                             | remove::remove               | finds parent and side itself; `remove1` for at    |
 // |                                     |                              | most one child, `remove2` for two                 |
 // | _post_remove                        | remove::post_remove          | the loop's body is `shrink_step`                  |
+pub mod climb;
 pub mod dir;
 pub mod insert;
 pub mod node;

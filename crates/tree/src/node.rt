@@ -6,6 +6,9 @@ ghost use lib.Dec.{eqb};
 ghost use Rattle.fields.specs.Number.{getLE, putLE};
 ghost use Rattle.tree.specs.Node.{way, child, parent, balance, getN, putN, keyN, nodeN, putBoth, sideN, detachN};
 use super::dir::Dir;
+use format::balance;
+use format::link;
+use format::record;
 
 // A tree: its topmost record, 0 for none, and how many records it has.
 pub struct AvlTree {
@@ -26,7 +29,7 @@ fn get_link(nodes: &[u8], s: u16, field: u8) -> u16
     if s == 0 {
         return 0;
     }
-    fields::get_u16(nodes, 32 * (s as usize - 1) + field as usize)
+    fields::get_u16(nodes, record::SIZE * (s as usize - 1) + field as usize)
 }
 
 fn set_link(nodes: &mut [u8], s: u16, field: u8, v: u16)
@@ -35,7 +38,7 @@ fn set_link(nodes: &mut [u8], s: u16, field: u8, v: u16)
     if s == 0 {
         return;
     }
-    fields::put_u16(nodes, 32 * (s as usize - 1) + field as usize, v);
+    fields::put_u16(nodes, record::SIZE * (s as usize - 1) + field as usize, v);
 }
 
 pub fn get_child(nodes: &[u8], s: u16, d: Dir) -> u16
@@ -53,14 +56,14 @@ pub fn set_child(nodes: &mut [u8], s: u16, d: Dir, c: u16)
 pub fn get_parent(nodes: &[u8], s: u16) -> u16
     ensures { λ r. ⌜ r ≡ getN (now (nodes .entry)) s parent ⌝ }
 {
-    get_link(nodes, s, 12)
+    get_link(nodes, s, link::PARENT)
 }
 
 // The direction is not stored: `parent_direction` works it out.
 pub fn set_parent(nodes: &mut [u8], s: u16, p: u16, _parent_dir: Dir)
     ensures { λ _. ⌜ now (nodes .exit) ≡ putN (now (nodes .entry)) s parent p ⌝ }
 {
-    set_link(nodes, s, 12, p);
+    set_link(nodes, s, link::PARENT, p);
 }
 
 pub fn get_balance(nodes: &[u8], s: u16) -> u8
@@ -69,7 +72,7 @@ pub fn get_balance(nodes: &[u8], s: u16) -> u8
     if s == 0 {
         return 0;
     }
-    fields::get_u8(nodes, 32 * (s as usize - 1) + 14)
+    fields::get_u8(nodes, record::SIZE * (s as usize - 1) + record::BALANCE)
 }
 
 pub fn set_balance(nodes: &mut [u8], s: u16, b: u8)
@@ -78,7 +81,7 @@ pub fn set_balance(nodes: &mut [u8], s: u16, b: u8)
     if s == 0 {
         return;
     }
-    fields::put_u8(nodes, 32 * (s as usize - 1) + 14, b);
+    fields::put_u8(nodes, record::SIZE * (s as usize - 1) + record::BALANCE, b);
 }
 
 pub fn get_key(nodes: &[u8], s: u16) -> u64
@@ -87,7 +90,7 @@ pub fn get_key(nodes: &[u8], s: u16) -> u64
     if s == 0 {
         return 0;
     }
-    fields::get_u64(nodes, 32 * (s as usize - 1))
+    fields::get_u64(nodes, record::SIZE * (s as usize - 1))
 }
 
 // The slow form, for slot 0 and for a record that does not lie wholly within the slice.
@@ -105,19 +108,19 @@ fn part_node(nodes: &[u8], s: u16) -> Node
 pub fn node_at(nodes: &[u8], s: u16) -> Node
     ensures { λ r. ⌜ r ≡ nodeN (now (nodes .entry)) s ⌝ }
 {
-    let end = 32 * (s as usize);
+    let end = record::SIZE * (s as usize);
     if nodes.len() < end {
         return part_node(nodes, s);
     }
     if s == 0 {
         return part_node(nodes, s);
     }
-    let start = end - 32;
+    let start = end - record::SIZE;
     let row = &nodes[start..end];
     Node {
-        key: fields::get_u64(row, 0),
-        left: fields::get_u16(row, 8),
-        right: fields::get_u16(row, 10),
+        key: fields::get_u64(row, record::KEY),
+        left: fields::get_u16(row, record::LEFT),
+        right: fields::get_u16(row, record::RIGHT),
     }
 }
 
@@ -146,5 +149,5 @@ pub fn detach(nodes: &mut [u8], x: u16)
     set_child(nodes, x, Dir::LEFT, 0);
     set_child(nodes, x, Dir::RIGHT, 0);
     set_parent(nodes, x, 0, Dir::LEFT);
-    set_balance(nodes, x, 0);
+    set_balance(nodes, x, balance::EVEN);
 }

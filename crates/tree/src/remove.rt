@@ -2,11 +2,11 @@
 ghost use mathlib.Core.Path.{_≡_};
 ghost use mathlib.Core.Bool.{cond};
 ghost use Prim.Native.Nat.{ℕ, suc};
-ghost use lib.Dec.{eqb};
 ghost use Rattle.tree.specs.Node.{way};
+ghost use Rattle.tree.specs.Walk.{levels};
 ghost use Rattle.tree.specs.Remove.{shrinkN, remove1N, replaceN, remove2N, unlinkN, removeN, lessN};
+use super::climb::Step;
 use super::dir::Dir;
-use super::insert::Step;
 use super::node::AvlTree;
 use super::node::detach;
 use super::node::get_balance;
@@ -20,14 +20,16 @@ use super::rotate::hang;
 use super::rotate::point;
 use super::rotate::rotate;
 use super::walk::bottom_child;
+use format::balance;
+use format::limit;
 
 // One turn of the climb: side d of x has become one lower.
-fn shrink_step(nodes: &mut [u8], t: AvlTree, x: u16, d: bool) -> Step
-    ensures { λ r. ⌜ ((k : ℕ) → shrinkN (suc k) (now (nodes .entry)) t x (way d) ≡ cond (r .done) (now (nodes .exit), r .tree) (shrinkN k (now (nodes .exit)) (r .tree) (r .at) (way (r .side)))) ⌝ }
+fn shrink_step(nodes: &mut [u8], t: AvlTree, x: u16, d: Dir) -> Step
+    ensures { λ r. ⌜ ((k : ℕ) → shrinkN (suc k) (now (nodes .entry)) t x (way (d .0)) ≡ cond (r .done) (now (nodes .exit), r .tree) (shrinkN k (now (nodes .exit)) (r .tree) (r .at) (way (r .side .0)))) ⌝ }
 {
     let b = get_balance(nodes, x);
     let p = get_parent(nodes, x);
-    let inv = Dir(d).reverse();
+    let inv = d.reverse();
     let heavy = inv.to_balance();
     if b == heavy {
         let e = parent_direction(nodes, p, x);
@@ -37,52 +39,34 @@ fn shrink_step(nodes: &mut [u8], t: AvlTree, x: u16, d: bool) -> Step
             done: r.level,
             tree: u,
             at: p,
-            side: e.0,
+            side: e,
         };
     }
-    if b == 0 {
+    if b == balance::EVEN {
         set_balance(nodes, x, heavy);
-        return Step {
-            done: true,
-            tree: t,
-            at: x,
-            side: d,
-        };
+        return Step::stop(t);
     }
-    set_balance(nodes, x, 0);
-    if p == 0 {
-        return Step {
-            done: true,
-            tree: t,
-            at: x,
-            side: d,
-        };
-    }
-    let e = parent_direction(nodes, p, x);
-    Step {
-        done: false,
-        tree: t,
-        at: p,
-        side: e.0,
-    }
+    set_balance(nodes, x, balance::EVEN);
+    Step::up(nodes, t, x, p)
 }
 
-fn post_remove(nodes: &mut [u8], t: AvlTree, x: u16, d: bool) -> AvlTree
-    ensures { λ r. ⌜ (now (nodes .exit), r) ≡ shrinkN 14 (now (nodes .entry)) t x (way d) ⌝ }
+fn post_remove(nodes: &mut [u8], t: AvlTree, x: u16, d: Dir) -> AvlTree
+    ensures { λ r. ⌜ (now (nodes .exit), r) ≡ shrinkN levels (now (nodes .entry)) t x (way (d .0)) ⌝ }
 {
     let mut tree = t;
     let mut at = x;
     let mut side = d;
-    let mut fuel: u8 = 14;
+    let mut fuel = limit::LEVELS;
     while fuel != 0 {
         let s = shrink_step(nodes, tree, at, side);
         let u = s.tree;
         if s.done {
             return u;
         }
+        let e = s.side;
         tree = u;
         at = s.at;
-        side = s.side;
+        side = e;
         fuel -= 1;
     }
     tree
@@ -90,14 +74,14 @@ fn post_remove(nodes: &mut [u8], t: AvlTree, x: u16, d: bool) -> AvlTree
 
 // x, below p on side e, has at most the child w.
 fn remove1(nodes: &mut [u8], t: AvlTree, x: u16, p: u16, e: Dir, w: u16) -> AvlTree
-    ensures { λ r. ⌜ (now (nodes .exit), r) ≡ remove1N 14 (now (nodes .entry)) t x p (way (e .0)) w ⌝ }
+    ensures { λ r. ⌜ (now (nodes .exit), r) ≡ remove1N levels (now (nodes .entry)) t x p (way (e .0)) w ⌝ }
 {
     let u = hang(nodes, t, w, p, e);
     detach(nodes, x);
     if p == 0 {
         return u;
     }
-    post_remove(nodes, u, p, e.0)
+    post_remove(nodes, u, p, e)
 }
 
 // n takes the place and the balance b of x.
@@ -125,10 +109,10 @@ fn choose(flag: bool, x: u16, y: u16) -> u16
 // x has two children: its neighbour n, the successor only if the right side is higher, is taken out
 // and takes the place of x.
 fn remove2(nodes: &mut [u8], t: AvlTree, x: u16, p: u16, e: Dir) -> AvlTree
-    ensures { λ r. ⌜ (now (nodes .exit), r) ≡ remove2N 14 (now (nodes .entry)) t x p (way (e .0)) ⌝ }
+    ensures { λ r. ⌜ (now (nodes .exit), r) ≡ remove2N levels (now (nodes .entry)) t x p (way (e .0)) ⌝ }
 {
     let b = get_balance(nodes, x);
-    let d = Dir(b == 1);
+    let d = Dir(b == balance::RIGHT);
     let inv = d.reverse();
     let c = get_child(nodes, x, d);
     let n = bottom_child(nodes, c, inv);
@@ -139,11 +123,11 @@ fn remove2(nodes: &mut [u8], t: AvlTree, x: u16, p: u16, e: Dir) -> AvlTree
     let v = replace(nodes, u, n, x, d, p, e, b);
     detach(nodes, x);
     let from = choose(i == x, n, i);
-    post_remove(nodes, v, from, ie.0)
+    post_remove(nodes, v, from, ie)
 }
 
 fn unlink(nodes: &mut [u8], t: AvlTree, x: u16) -> AvlTree
-    ensures { λ r. ⌜ (now (nodes .exit), r) ≡ unlinkN 14 (now (nodes .entry)) t x ⌝ }
+    ensures { λ r. ⌜ (now (nodes .exit), r) ≡ unlinkN levels (now (nodes .entry)) t x ⌝ }
 {
     let l = get_child(nodes, x, Dir::LEFT);
     let r = get_child(nodes, x, Dir::RIGHT);
@@ -170,7 +154,7 @@ pub fn less(c: u16) -> u16
 
 // The record x out of its tree, its links cleared.
 pub fn remove(nodes: &mut [u8], t: AvlTree, x: u16) -> AvlTree
-    ensures { λ r. ⌜ (now (nodes .exit), r) ≡ removeN 14 (now (nodes .entry)) t x ⌝ }
+    ensures { λ r. ⌜ (now (nodes .exit), r) ≡ removeN levels (now (nodes .entry)) t x ⌝ }
 {
     let u = unlink(nodes, t, x);
     AvlTree {

@@ -11,6 +11,7 @@ use super::node::set_balance;
 use super::node::set_child;
 use super::node::set_child2;
 use super::node::set_parent;
+use format::balance;
 
 // What a rotation gives: the tree, and whether a climb stops here, the height being as it was or this
 // the root.
@@ -87,7 +88,7 @@ fn double(nodes: &mut [u8], t: AvlTree, x: u16, d: Dir, p: u16, e: Dir, c: u16, 
     set_balance(nodes, x, pick(g_bal == dir_bal, inv_bal));
     set_child2(nodes, c, inv, g_left);
     set_balance(nodes, c, pick(g_bal == inv_bal, dir_bal));
-    set_balance(nodes, g, 0);
+    set_balance(nodes, g, balance::EVEN);
     set_child2(nodes, g, d, c);
     set_child2(nodes, g, inv, x);
     hang(nodes, t, g, p, e)

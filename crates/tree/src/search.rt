@@ -2,10 +2,12 @@
 ghost use mathlib.Core.Path.{_≡_};
 ghost use Rattle.avl.specs.Tree.{right};
 ghost use Rattle.tree.specs.Node.{way};
-ghost use Rattle.tree.specs.Search.{Ending, seekN};
+ghost use Rattle.tree.specs.Walk.{levels};
+ghost use Rattle.tree.specs.Search.{seekN};
 use super::dir::Dir;
 use super::node::AvlTree;
 use super::node::node_at;
+use format::limit;
 
 // Where a search ends: the record found or 0, the record above it, the side on which it hangs (right
 // on an empty tree), and how many keys were compared.
@@ -17,18 +19,18 @@ pub struct Place {
 }
 
 pub fn entry(nodes: &[u8], t: AvlTree, key: u64) -> Place
-    ensures { λ r. ⌜ record { slot = r .slot; above = r .parent; side = way (r .side .0); compared = r .compared } ≡ seekN 14 (now (nodes .entry)) key (t .root) 0 right 0 ⌝ }
+    ensures { λ r. ⌜ record { slot = r .slot; above = r .parent; side = way (r .side .0); compared = r .compared } ≡ seekN levels (now (nodes .entry)) key (t .root) 0 right 0 ⌝ }
 {
     let mut at = t.root;
     let mut parent: u16 = 0;
-    let mut side = true;
+    let mut side = Dir::RIGHT;
     let mut compared: u8 = 0;
-    while compared != 14 {
+    while compared != limit::LEVELS {
         if at == 0 {
             return Place {
                 slot: 0,
                 parent,
-                side: Dir(side),
+                side,
                 compared,
             };
         }
@@ -38,25 +40,25 @@ pub fn entry(nodes: &[u8], t: AvlTree, key: u64) -> Place
             return Place {
                 slot: at,
                 parent,
-                side: Dir(side),
+                side,
                 compared: compared + 1,
             };
         }
         parent = at;
-        side = !(key < k);
-        at = if side { x.right } else { x.left };
+        side = Dir(!(key < k));
+        at = if side.0 { x.right } else { x.left };
         compared += 1;
     }
     Place {
         slot: 0,
         parent,
-        side: Dir(side),
+        side,
         compared,
     }
 }
 
 pub fn get(nodes: &[u8], t: AvlTree, key: u64) -> u16
-    ensures { λ r. ⌜ r ≡ seekN 14 (now (nodes .entry)) key (t .root) 0 right 0 .slot ⌝ }
+    ensures { λ r. ⌜ r ≡ seekN levels (now (nodes .entry)) key (t .root) 0 right 0 .slot ⌝ }
 {
     entry(nodes, t, key).slot
 }

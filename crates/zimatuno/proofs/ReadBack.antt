@@ -9,8 +9,8 @@ use lib.ListN.{length, take, drop}
 use Rattle.meaning.specs.Sound.{sound}
 use Rattle.meaning.specs.Doors.{nCommands, batchOk, batchRefusal, carriedOut, batch, name}
 use Rattle.meaning.proofs.Facts.{test}
-use Rattle.pool.specs.Name.{placeOf}
-use Rattle.pool.proofs.Naming.{place-low, name-at}
+use Rattle.name.specs.Name.{placeOf}
+use Rattle.name.proofs.Naming.{place-low, name-at}
 use Rattle.zimatuno.specs.Abi.{batchInC, nameInC}
 
 -- a batch is refused with 1, 2 or 3, or not at all

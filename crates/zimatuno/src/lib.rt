@@ -17,7 +17,7 @@ ghost use Rattle.zimatuno.specs.Abi.{batchInC, nameInC};
 pub extern "C" fn zt_create(n: u16, t: u16, x: u32, buffer: &mut [u8]) -> u8
     ensures { λ r. ⌜ record { code = r; buffer = now (buffer .exit) } ≡ create n t x (now (buffer .entry)) ⌝ }
 {
-    pool::create::create(n as u32, t as u32, x, buffer)
+    create::create::create(n as u32, t as u32, x, buffer)
 }
 
 // 0 for a sound pool, else 1 (DAMAGED).
@@ -25,7 +25,7 @@ pub extern "C" fn zt_create(n: u16, t: u16, x: u32, buffer: &mut [u8]) -> u8
 pub extern "C" fn zt_check(pool: &[u8]) -> u8
     ensures { λ r. ⌜ r ≡ check (now (pool .entry)) ⌝ }
 {
-    pool::check::check(pool)
+    judge::verdict::check(pool)
 }
 
 // Carries out the batch on the pool and writes the answers.
@@ -42,6 +42,6 @@ pub extern "C" fn zt_batch(pool: &mut [u8], batch: &[u8], answers: &mut [u8]) ->
 pub extern "C" fn zt_name(pool: &[u8], tree: u8, slot: u16, stamp: u32) -> u64
     ensures { λ r. ⌜ r ≡ nameInC (now (pool .entry)) tree slot stamp ⌝ }
 {
-    let p = pool::name::place_of(pool, tree, slot, stamp);
+    let p = name::name::place_of(pool, tree, slot, stamp);
     p.at as u64 + p.len as u64 * 4_294_967_296
 }

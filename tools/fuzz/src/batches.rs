@@ -63,18 +63,18 @@ impl Memory {
 pub fn batch(memory: &mut Memory, random: &mut Random) -> Vec<u8> {
     let count = match random.below(40) {
         0 => random.pick(&[0, 1, 255, 256, 257]),
-        1..=6 => random.from_to(20, 120),
-        _ => random.from_to(0, 20),
+        1..=6 => random.between(20, 120),
+        _ => random.between(0, 20),
     };
     let names = match random.below(40) {
         0 => random.pick(&[0, 1, 255, 16_383, 16_384, 16_385]),
-        1 => random.from_to(256, 4_000),
-        _ => random.from_to(1, 300),
+        1 => random.between(256, 4_000),
+        _ => random.between(1, 300),
     };
     let mut bytes = well_formed(count, names, memory, random);
     match random.below(25) {
         0 => bytes = random_bytes(random),
-        1 => bytes.truncate(random.from_to(0, bytes.len())),
+        1 => bytes.truncate(random.between(0, bytes.len())),
         2 => bytes.extend(random.bytes(1)),
         3 => bytes[random.below(16)] = random.byte(),
         4 => {
@@ -92,14 +92,14 @@ pub fn answers_length(batch: &[u8], random: &mut Random) -> usize {
     let count = commands(batch).unwrap_or_else(|| random.below(20));
     match random.below(20) {
         0 => (24 * count).saturating_sub(1),
-        1 => random.from_to(0, 24 * count),
-        2..=7 => 24 * count + random.from_to(1, 60),
+        1 => random.between(0, 24 * count),
+        2..=7 => 24 * count + random.between(1, 60),
         _ => 24 * count,
     }
 }
 
 fn random_bytes(random: &mut Random) -> Vec<u8> {
-    let length = random.from_to(0, 400);
+    let length = random.between(0, 400);
     let mut bytes = random.bytes(length);
     if random.chance(50) && length >= 8 {
         bytes[..8].copy_from_slice(&[1, 0, random.below(5) as u8, 0, 16, 0, 0, 0]);
@@ -135,7 +135,7 @@ fn command(
 ) {
     let with_cursor = (9..=25).contains(&memory.op) && random.chance(75);
     let op = match with_cursor {
-        true => random.from_to(12, 25) as u8,
+        true => random.between(12, 25) as u8,
         false if random.chance(adding) => 1,
         false => op(random),
     };
@@ -144,7 +144,7 @@ fn command(
     if (4..=6).contains(&op) {
         memory.tree = tree;
     } else if op < 12 && random.chance(30) {
-        memory.tree = if random.chance(5) { random.byte() } else { random.from_to(1, 3) as u8 };
+        memory.tree = if random.chance(5) { random.byte() } else { random.between(1, 3) as u8 };
     }
     memory.op = op;
     memory.key = key;
@@ -161,10 +161,10 @@ fn command(
 /// An op for a command that does not follow a cursor.
 fn op(random: &mut Random) -> u8 {
     match random.below(100) {
-        0..=44 => random.from_to(2, 8) as u8,
-        45..=79 => random.from_to(9, 11) as u8,
-        80..=84 => random.from_to(12, 25) as u8,
-        85..=95 => random.from_to(26, 28) as u8,
+        0..=44 => random.between(2, 8) as u8,
+        45..=79 => random.between(9, 11) as u8,
+        80..=84 => random.between(12, 25) as u8,
+        85..=95 => random.between(26, 28) as u8,
         96 => 29,
         97 => random.pick(&[0, 30, 255]),
         _ => random.byte(),
@@ -194,14 +194,14 @@ fn key(op: u8, memory: &mut Memory, random: &mut Random) -> u64 {
 fn name(names: usize, random: &mut Random) -> (u32, u16) {
     let length = match random.below(30) {
         0 => random.pick(&[0, 1, 255, 256, u16::MAX]),
-        1 => random.from_to(0, 300) as u16,
-        _ => random.from_to(1, 8) as u16,
+        1 => random.between(0, 300) as u16,
+        _ => random.between(1, 8) as u16,
     };
     let latest = names.saturating_sub(usize::from(length)) as u32;
     let start = match random.below(30) {
         0 => random.pick(&[latest + 1, names as u32, u32::MAX, 1 << 31]),
         1..=4 => latest,
-        _ => random.from_to(0, latest as usize) as u32,
+        _ => random.between(0, latest as usize) as u32,
     };
     (start, length)
 }

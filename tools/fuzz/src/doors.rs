@@ -8,6 +8,9 @@ use crate::sys;
 use crate::tally::Tally;
 use crate::watch::Watch;
 
+/// Pool and answers after a batch.
+pub type After = (Vec<u8>, Vec<u8>);
+
 /// What every call needs. A fault is a text.
 pub struct Doors {
     pub watch: Watch,
@@ -84,7 +87,7 @@ impl Doors {
         batch: &[u8],
         answers: &[u8],
         random: &mut Random,
-    ) -> Result<Option<(Vec<u8>, Vec<u8>)>, String> {
+    ) -> Result<Option<After>, String> {
         let (outcome, pool_after, answers_after) =
             twice(|| batch_once(&mut self.watch, pool, batch, answers, random))?;
         let count = commands(batch);

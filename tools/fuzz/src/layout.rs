@@ -46,7 +46,7 @@ pub fn commands(batch: &[u8]) -> Option<usize> {
         && u64::from(u32_at(batch, 8)) == 16 + 24 * count
         && names <= 16_384
         && batch.len() as u64 == 16 + 24 * count + names;
-    good.then(|| count as usize)
+    good.then_some(count as usize)
 }
 
 /// The place and length of a name in a sound pool, zeros if the handle is refused.

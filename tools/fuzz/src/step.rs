@@ -10,7 +10,7 @@ pub fn run(doors: &mut Doors, random: &mut Random) -> Result<(), String> {
     let mut pool = start(doors, random)?;
     let mut memory = Memory::new(random);
     let mut sound = doors.check(&pool, random).map_err(|fault| input(fault, &pool, &[]))?;
-    let rounds = if random.chance(5) { 20 } else { random.from_to(1, 6) };
+    let rounds = if random.chance(5) { 20 } else { random.between(1, 6) };
     for _ in 0..rounds {
         if random.chance(30) {
             let mut damaged = pool.clone();
@@ -62,7 +62,7 @@ fn round(
         keep(doors, &batch, &answers_after, memory).map_err(|fault| input(fault, pool, &batch))?;
         *pool = pool_after;
     }
-    for _ in 0..random.from_to(0, 3) {
+    for _ in 0..random.between(0, 3) {
         let handle = memory.handle(random);
         doors
             .name(pool, sound, handle, random)

@@ -22,7 +22,7 @@ same-length-2 c = c .before .before .before .before .loop .inv .1
 loop-again : tie.Need-loop-again Inv-loop μ-loop
 loop-again c =
     let s = c .before .before in
-    (omega arith, s .show .kept .1 .0 ∙ s .before .before .before .before .before .before .before .before .loop .inv .1)
+    (omega arith, s .show .kept .1 .1 .0 ∙ s .before .before .before .before .before .before .before .loop .inv .1)
 
 same-length-3 : tie.Need-same-length-3 Inv-loop μ-loop
 same-length-3 c = c .before .loop .inv .1
@@ -30,4 +30,26 @@ same-length-3 c = c .before .loop .inv .1
 pub show-all-spec : {M : Type 1} → statement M
 show-all-spec =
     tie.close
-    (tie.spec Inv-loop μ-loop (λ c. (omega arith, refl)) (λ c. omega arith) same-length (λ c. search needs) (λ c κs. tt) (λ c. omega arith) (λ c. omega arith) (λ c. omega arith) same-length-2 (λ c. search needs) (λ c. omega arith) (λ c κs. tt) (λ c. omega arith) (λ c. omega arith) (λ c. omega arith) (λ c κs. tt) (λ c. omega arith) (λ c. omega arith) loop-again same-length-3 (λ c. search needs))
+    (tie.spec
+    Inv-loop
+    μ-loop
+    (λ c. (omega arith, refl))
+    (λ c. omega arith)
+    same-length
+    (λ c. search needs)
+    (λ c κs. tt)
+    (λ c. omega arith)
+    (λ c. omega arith)
+    (λ c. omega arith)
+    same-length-2
+    (λ c. search needs)
+    (λ c. omega arith)
+    (λ c. omega arith)
+    (λ c. omega arith)
+    (λ c. omega arith)
+    (λ c κs. tt)
+    (λ c. omega arith)
+    (λ c. omega arith)
+    loop-again
+    same-length-3
+    (λ c. search needs))

@@ -1,18 +1,27 @@
 -- `listing`: its answers, each by what was found on the way. That the pool is bytes is known where the function starts.
 use borrow.Author.Needs.{needs}
 use native.Mathlib.Omega.{arith}
-use Rattle.lines.proofs.WholeSteps.{all-bytes, listed-none, listed-refused, body-inside, first-room, trees-room, listed-sound}
+use Rattle.lines.proofs.WholeSteps.{all-bytes, listed-none, number-room, listed-refused, body-inside, first-room, trees-room, listed-sound}
 use Rattle.lines.proofs.whole.listing.Statement.{statement}
 use Rattle.lines.proofs.whole.listing.Tie as tie
 
 returns : tie.Need-returns
 returns c = listed-none _ _ (c .if1 .taken)
 
+put-field-requires : tie.Need-put-field-requires
+put-field-requires c κs =
+    let t = c .before .before .before in
+    let k = t .before .before .before in
+    let j = k .before .before in
+    let s = j .before .before .before .before in
+    number-room (s .args .pool .now) (s .args .out .now) (j .before .if1 .left) (j .judge .ensures) (k .if2 .taken) (t .put-text .ensures)
+
 returns-2 : tie.Need-returns-2
 returns-2 c =
-    let k = c .before .before .before .before .before in
+    let t = c .before .before .before .before .before .before in
+    let k = t .before .before .before in
     let j = k .before .before in
-    listed-refused _ _ (j .before .if1 .left) (j .judge .ensures) (k .if2 .taken) (c .before .before .put-text .ensures)
+    listed-refused _ _ (j .before .if1 .left) (j .judge .ensures) (k .if2 .taken) (t .put-text .ensures) (c .before .before .put-field .ensures)
 
 sub-body : tie.Need-sub-body
 sub-body c =
@@ -62,6 +71,6 @@ returns-3 c =
 pub listing-spec : {M : Type 1} → statement M
 listing-spec =
     tie.close
-    (tie.spec returns (λ c κs. tt) (λ c. search needs) (λ c κs. omega arith) (λ c. search needs) returns-2 (λ c κs. tt) (λ c. search needs)
+    (tie.spec returns (λ c κs. tt) (λ c. search needs) (λ c κs. omega arith) (λ c. search needs) put-field-requires (λ c. search needs) returns-2 (λ c κs. tt) (λ c. search needs)
     (λ c. search needs) (λ c. search needs) sub-body part-body-start (λ c. search needs) put-first-requires put-trees-requires
     (λ c. search needs) returns-3)

@@ -3,16 +3,17 @@ use borrow.Author.Needs.{needs}
 use mathlib.Core.Path.{refl}
 use Rattle.tree.specs.Insert.{growN}
 use Rattle.tree.specs.Node.{way}
+use Rattle.tree.specs.Walk.{levels}
 use Rattle.tree.proofs.Loops.{Climbing, climb-end, climb-stop, climb-on}
 use Rattle.tree.proofs.insert.grow.Statement.{statement}
 use Rattle.tree.proofs.insert.grow.Tie as tie
 
 abbrev Inv-loop : tie.InvT-loop
-Inv-loop nodes₀ x d tree₀ at₀ side₀ fuel₀ nodes tree at side fuel =
-    Climbing growN nodes₀ (growN 14 nodes₀ tree₀ x (way d)) nodes tree at (way side) fuel
+Inv-loop nodes₀ x tree₀ at₀ side₀ fuel₀ nodes tree at side fuel =
+    Climbing growN nodes₀ (growN levels nodes₀ tree₀ x (way (side₀ .0))) nodes tree at (way (side .0)) fuel
 
 abbrev μ-loop : tie.MeasureT-loop
-μ-loop nodes₀ x d tree₀ at₀ side₀ fuel₀ nodes tree at side fuel = fuel
+μ-loop nodes₀ x tree₀ at₀ side₀ fuel₀ nodes tree at side fuel = fuel
 
 loop-holds : tie.Need-loop-holds Inv-loop μ-loop
 loop-holds c = record { same = refl; size = refl }
@@ -25,10 +26,10 @@ returns c =
 
 loop-again : tie.Need-loop-again Inv-loop μ-loop
 loop-again c =
-    let c4 = c .before .before .before .before in
-    let c7 = c4 .before .before .before in
-    climb-on (c7 .loop .inv) (c4 .before .before .loop-test .taken) _ _ (c4 .grow-step .ensures) (c .if1 .left)
-    (c4 .grow-step .kept .0)
+    let c5 = c .before .before .before .before .before in
+    let c8 = c5 .before .before .before in
+    climb-on (c8 .loop .inv) (c5 .before .before .loop-test .taken) _ _ (c5 .grow-step .ensures) (c .before .if1 .left)
+    (c5 .grow-step .kept .0)
 
 returns-2 : tie.Need-returns-2 Inv-loop μ-loop
 unfolding growN

@@ -6,6 +6,7 @@ use native.Mathlib.Omega.{arith}
 use Prim.Native.Nat.{_-_}
 use Rattle.avl.specs.Tree.{right}
 use Rattle.tree.specs.Node.{way}
+use Rattle.tree.specs.Walk.{levels}
 use Rattle.tree.specs.Search.{seekN}
 use Rattle.tree.proofs.Loops.{Seeking, seek-end, seek-none, seek-here, seek-right, seek-left}
 use Rattle.tree.proofs.search.entry.Statement.{statement}
@@ -13,10 +14,10 @@ use Rattle.tree.proofs.search.entry.Tie as tie
 
 abbrev Inv-loop : tie.InvT-loop
 Inv-loop nodes key at₀ parent₀ side₀ compared₀ at parent side compared =
-    Seeking nodes key (seekN 14 nodes key at₀ 0 right 0) at parent (way side) compared
+    Seeking nodes key (seekN levels nodes key at₀ 0 right 0) at parent (way (side .0)) compared
 
 abbrev μ-loop : tie.MeasureT-loop
-μ-loop nodes key at₀ parent₀ side₀ compared₀ at parent side compared = 14 - compared
+μ-loop nodes key at₀ parent₀ side₀ compared₀ at parent side compared = levels - compared
 
 loop-holds : tie.Need-loop-holds Inv-loop μ-loop
 loop-holds c = record { same = refl; most = omega arith }

@@ -2,13 +2,13 @@
 use borrow.Author.Needs.{needs}
 use mathlib.Core.Path.{_≡_, refl}
 use Rattle.tree.specs.Node.{way}
-use Rattle.tree.specs.Walk.{bottomN}
+use Rattle.tree.specs.Walk.{levels, bottomN}
 use Rattle.tree.proofs.Loops.{bottom-stop, bottom-on}
 use Rattle.tree.proofs.walk.bottom_child.Statement.{statement}
 use Rattle.tree.proofs.walk.bottom_child.Tie as tie
 
 abbrev Inv-loop : tie.InvT-loop
-Inv-loop nodes s d at₀ fuel₀ at fuel = bottomN fuel nodes at (way (d .0)) ≡ bottomN 14 nodes s (way (d .0))
+Inv-loop nodes s d at₀ fuel₀ at fuel = bottomN fuel nodes at (way (d .0)) ≡ bottomN levels nodes s (way (d .0))
 
 abbrev μ-loop : tie.MeasureT-loop
 μ-loop nodes s d at₀ fuel₀ at fuel = fuel

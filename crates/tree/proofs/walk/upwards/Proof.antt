@@ -2,16 +2,16 @@
 use borrow.Author.Needs.{needs}
 use mathlib.Core.Path.{_≡_, refl}
 use Rattle.tree.specs.Node.{way}
-use Rattle.tree.specs.Walk.{upN}
+use Rattle.tree.specs.Walk.{levels, upN}
 use Rattle.tree.proofs.Loops.{up-none, up-here, up-on}
 use Rattle.tree.proofs.walk.upwards.Statement.{statement}
 use Rattle.tree.proofs.walk.upwards.Tie as tie
 
 abbrev Inv-loop : tie.InvT-loop
-Inv-loop nodes p e d at₀ side₀ fuel₀ at side fuel = upN fuel nodes at (way side) (way (d .0)) ≡ upN 14 nodes p (way e) (way (d .0))
+Inv-loop nodes p d at₀ side₀ fuel₀ at side fuel = upN fuel nodes at (way (side .0)) (way (d .0)) ≡ upN levels nodes p (way (side₀ .0)) (way (d .0))
 
 abbrev μ-loop : tie.MeasureT-loop
-μ-loop nodes p e d at₀ side₀ fuel₀ at side fuel = fuel
+μ-loop nodes p d at₀ side₀ fuel₀ at side fuel = fuel
 
 loop-holds : tie.Need-loop-holds Inv-loop μ-loop
 loop-holds c = refl

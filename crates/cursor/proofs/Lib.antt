@@ -1,0 +1,4 @@
+pub mod CommandSteps
+pub mod CursorSteps
+pub mod OneToOne
+pub mod StateSteps

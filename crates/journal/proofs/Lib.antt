@@ -1,0 +1,3 @@
+pub mod JournalSteps
+pub mod Changes
+pub mod Unrolling

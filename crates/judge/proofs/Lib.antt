@@ -1,0 +1,17 @@
+pub mod Rising
+pub mod Passing
+pub mod Counting
+pub mod OnePass
+pub mod Complete
+pub mod Sections
+pub mod Decided
+pub mod Bounds
+pub mod SameWalk
+pub mod Heights
+pub mod Between
+pub mod Twigs
+pub mod WalkSteps
+pub mod CheckSteps
+pub mod ClauseSteps
+pub mod RowSteps
+pub mod CheckAnswers

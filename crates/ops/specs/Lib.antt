@@ -1,0 +1,4 @@
+pub mod Ending
+pub mod Ops
+pub mod Perform
+pub mod Image

@@ -1,4 +1,0 @@
-pub mod Check
-pub mod Rows
-pub mod Name
-pub mod Create

@@ -87,7 +87,7 @@ uint64_t zt_name(const uint8_t *pool, size_t pool_len, uint8_t tree, uint16_t sl
 #define ZT_BAD_CURSOR 12 /* not the cursor that the op needs */
 #define ZT_BAD_NAME 13   /* adding ops: name length 0 or above 255, or not within the batch's names */
 #define ZT_BAD_SLOT 14   /* slot 0 or above the pool's number of slots */
-#define ZT_STALE 15      /* the slot is free, or has another stamp: the handle's record is gone */
+#define ZT_STALE 15      /* the slot is free, or has another stamp */
 #define ZT_OTHER_TREE 16 /* the record lives in another tree */
 #define ZT_PRESENT 17    /* op 1: the key is in the tree */
 #define ZT_ORDER 18      /* ops 16 to 20, 24, 25: the key does not belong at that place */
@@ -100,8 +100,10 @@ uint64_t zt_name(const uint8_t *pool, size_t pool_len, uint8_t tree, uint16_t sl
 
 /* ---- Ops ----------------------------------------------------------------------------------------- */
 
-/* A handle is a slot and a stamp. A stamp is never given twice in a pool's life, so that a handle to a
- * removed record is refused as ZT_STALE for ever. Behind each op: the command's fields that it uses.
+/* A handle is a slot and a stamp. A stamp is never given twice in a pool's life, so that a handle is good
+ * for its own record only. Once that record is gone for good its handle is refused as ZT_STALE for ever. A
+ * record that was there when the open mark was opened is not gone for good until the mark is committed: a
+ * rollback brings it back, and its handle is good again. Behind each op: the command's fields that it uses.
  * A name is the command's name offset and name length. */
 #define ZT_OP_ADD 1           /* tree, key, name: adds a record */
 #define ZT_OP_GET 2           /* tree, key: finds a record */
@@ -113,13 +115,15 @@ uint64_t zt_name(const uint8_t *pool, size_t pool_len, uint8_t tree, uint16_t sl
 #define ZT_OP_LAST 8          /* tree */
 
 /* The cursor. A batch starts without one and has at most one. Ops 1 to 8 and 26 to 29 and unknown ops
- * drop it; 9 to 11 set it. 12 to 25 work at it, in its tree, and ignore the command's tree. */
+ * drop it; 9 to 11 set it, or drop it if refused. 12 to 25 work at it, in its tree, and ignore the
+ * command's tree; of these a refused one keeps it, but a move with ZT_NONE and an append or prepend with
+ * ZT_ORDER lose it. */
 #define ZT_OP_ENTRY 9               /* tree, key: a cursor at the key's record, or at its vacant place */
 #define ZT_OP_FIRST_ENTRY 10        /* tree */
 #define ZT_OP_LAST_ENTRY 11         /* tree */
 #define ZT_OP_PEEK_NEXT 12          /* shows the next record, the cursor stays */
 #define ZT_OP_PEEK_PREV 13
-#define ZT_OP_MOVE_NEXT 14          /* moves to the next record; the cursor is lost if there is none */
+#define ZT_OP_MOVE_NEXT 14          /* moves to the next record */
 #define ZT_OP_MOVE_PREV 15
 #define ZT_OP_INSERT_BEFORE 16      /* key, name: the cursor stays at its record */
 #define ZT_OP_INSERT_AFTER 17       /* key, name */
@@ -133,8 +137,8 @@ uint64_t zt_name(const uint8_t *pool, size_t pool_len, uint8_t tree, uint16_t sl
 #define ZT_OP_PREPEND 25            /* key, name: at a ZT_CURSOR_FIRST, a key below the first */
 
 /* The mark. One may be open; a mark open at the end of a batch is rolled back. A rollback undoes every
- * change since the mark: the same records are live, each with its slot, stamp and name; the tree's shape
- * and the next stamp may differ. These ops use no field. */
+ * change since the mark: the same records are live, each with its slot, stamp, key and name; the shapes of
+ * the trees and the next stamp may differ. These ops use no field. */
 #define ZT_OP_MARK 26
 #define ZT_OP_ROLLBACK 27
 #define ZT_OP_COMMIT 28 /* closes the mark and keeps the changes */
@@ -211,7 +215,8 @@ uint64_t zt_name(const uint8_t *pool, size_t pool_len, uint8_t tree, uint16_t sl
 
 /* answer, 24 bytes; that of command i is at ZT_ANSWER_AT(i). The record shown is the one added, found,
  * removed (as it was), peeked or moved to, and for a vacant entry the one that the key would hang on.
- * Its fields are 0 where there is none: where the code is not ZT_DONE, and after ops 26 to 29. */
+ * Its fields are 0 where there is none: where the code is not ZT_DONE, after ops 26 to 29, and after ops 9
+ * to 11 on an empty tree. */
 #define ZT_ANSWER_SIZE 24
 #define ZT_ANSWER_AT(i) ((size_t)24 * (size_t)(i))
 #define ZT_ANSWER_CODE 0         /* u8 */

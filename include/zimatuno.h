@@ -101,10 +101,10 @@ uint64_t zt_name(const uint8_t *pool, size_t pool_len, uint8_t tree, uint16_t sl
 /* ---- Ops ----------------------------------------------------------------------------------------- */
 
 /* A handle is a slot and a stamp. A stamp is never given twice in a pool's life, so that a handle is good
- * for its own record only. Once that record is gone for good its handle is refused as ZT_STALE for ever. A
- * record that was there when the open mark was opened is not gone for good until the mark is committed: a
- * rollback brings it back, and its handle is good again. Behind each op: the command's fields that it uses.
- * A name is the command's name offset and name length. */
+ * for its own record only. Once that record is gone for good its handle is refused for ever, as ZT_STALE if
+ * the command's tree is one of the pool's. A record that was there when the open mark was opened is not gone
+ * for good until the mark is committed: a rollback brings it back, and its handle is good again. Behind each
+ * op: the command's fields that it uses. A name is the command's name offset and name length. */
 #define ZT_OP_ADD 1           /* tree, key, name: adds a record */
 #define ZT_OP_GET 2           /* tree, key: finds a record */
 #define ZT_OP_REMOVE_BY_KEY 3 /* tree, key */

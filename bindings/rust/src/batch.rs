@@ -24,8 +24,7 @@ const LONGEST_NAME: usize = 255;
 /// A method never fails. What is wrong with a command is in its [`Answer`], and a
 /// batch that is too large is refused as a whole.
 ///
-#[cfg_attr(zimatuno_linked, doc = "```")]
-#[cfg_attr(not(zimatuno_linked), doc = "```ignore")]
+/// ```
 /// use zimatuno::{create, Batch, CursorKind, Refusal};
 ///
 /// let mut pool = [0; 184];
@@ -158,8 +157,7 @@ impl Batch {
 /// Gives the number of commands answered, which is the number of commands. Bytes of
 /// `answers` beyond them are left as they were.
 ///
-#[cfg_attr(zimatuno_linked, doc = "```")]
-#[cfg_attr(not(zimatuno_linked), doc = "```ignore")]
+/// ```
 /// use zimatuno::{create, run_batch, Batch, DoorError};
 ///
 /// let mut pool = [0; 184];

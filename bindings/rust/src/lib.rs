@@ -14,8 +14,7 @@
 //!
 //! [`SoundPool`] lists the records of a pool by rising key.
 //!
-#![cfg_attr(zimatuno_linked, doc = "```")]
-#![cfg_attr(not(zimatuno_linked), doc = "```ignore")]
+//! ```
 //! use zimatuno::{create, name, pool_size, Batch, Refusal};
 //!
 //! # fn main() -> Result<(), Box<dyn std::error::Error>> {
@@ -49,9 +48,9 @@
 //!
 //! # Where it runs
 //!
-//! `bindings/library` of the project builds `libzimatuno.a` on x86-64 and aarch64 Linux.
-//! Where it is not there this crate compiles, with [`LINKED`] false: batches can be built and answers read, and [`create`],
-//! [`check`], [`name`], [`run_batch`] and what calls them panic.
+//! `bindings/library` of the project builds `libzimatuno.a` on x86-64 and aarch64 Linux. Where
+//! it is not there this crate can be checked and documented, and nothing that calls it can be
+//! built: that is a compile error, with a warning that says what to run.
 
 #![deny(missing_docs, unsafe_code)]
 #![warn(rust_2018_idioms)]
@@ -63,11 +62,7 @@ mod commands;
 mod listing;
 mod pool;
 mod refusal;
-#[cfg(zimatuno_linked)]
 #[allow(unsafe_code)]
-mod sys;
-#[cfg(not(zimatuno_linked))]
-#[path = "absent.rs"]
 mod sys;
 
 pub use crate::answer::{Answer, CursorKind, Shown};
@@ -77,10 +72,7 @@ pub use crate::pool::{check, create, name, pool_size, Handle};
 pub use crate::pool::{MAX_SLOTS, MAX_TEXT, MAX_TREES};
 pub use crate::refusal::{DoorError, Refusal};
 
-/// Whether the doors are there: whether `libzimatuno.a` was linked when this crate was compiled.
-pub const LINKED: bool = cfg!(zimatuno_linked);
-
 /// The example of README.md, as a test.
-#[cfg(all(doctest, zimatuno_linked))]
+#[cfg(doctest)]
 #[doc = include_str!("../README.md")]
 mod readme {}

@@ -29,8 +29,7 @@ pub struct Record<'a> {
 /// The bytes of a pool that [`check`] has found sound. They are borrowed, so nothing
 /// changes them while this value is in use.
 ///
-#[cfg_attr(zimatuno_linked, doc = "```")]
-#[cfg_attr(not(zimatuno_linked), doc = "```ignore")]
+/// ```
 /// use zimatuno::{create, Batch, SoundPool};
 ///
 /// let mut pool = [0; 192];

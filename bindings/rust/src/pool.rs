@@ -73,8 +73,7 @@ pub const fn pool_size(slots: u16, trees: u16, text: u32) -> Result<usize, DoorE
 /// The door create: writes a fresh pool, without records and with next stamp 1,
 /// over the whole buffer.
 ///
-#[cfg_attr(zimatuno_linked, doc = "```")]
-#[cfg_attr(not(zimatuno_linked), doc = "```ignore")]
+/// ```
 /// use zimatuno::{check, create, DoorError};
 ///
 /// let mut buffer = [7; 184];
@@ -94,8 +93,7 @@ pub fn create(slots: u16, trees: u16, text: u32, buffer: &mut [u8]) -> Result<()
 
 /// The door check: whether these bytes are a sound pool.
 ///
-#[cfg_attr(zimatuno_linked, doc = "```")]
-#[cfg_attr(not(zimatuno_linked), doc = "```ignore")]
+/// ```
 /// use zimatuno::{check, create, DoorError};
 ///
 /// let mut pool = [0; 184];
@@ -119,8 +117,7 @@ pub fn check(pool: &[u8]) -> Result<(), DoorError> {
 /// would be refused for that tree and handle. The pool is checked in each call; to
 /// read many names of one pool, [`SoundPool`](crate::SoundPool) checks it once.
 ///
-#[cfg_attr(zimatuno_linked, doc = "```")]
-#[cfg_attr(not(zimatuno_linked), doc = "```ignore")]
+/// ```
 /// use zimatuno::{create, name, Batch, Handle};
 ///
 /// let mut pool = [0; 184];

@@ -1,7 +1,7 @@
 #!/usr/bin/env python3
-"""Pools and their listings, written from document 01 and from nothing else: a second opinion on the
+"""Pools and their listings, written from docs/REFERENCE.md and from nothing else: a second opinion on the
 listing programs. Writes crates/listing/stdin and crates/listing_run/{stdin,stdout}; crates/listing/stdout
-is the text of document 01 and is compared here with what this script says. Run from the repository's root:
+is the text that docs/REFERENCE.md prints and is compared here with what this script says. Run from the repository's root:
 
     python3 tools/pools.py
 """

@@ -37,8 +37,8 @@
 //!
 //! # What is promised
 //!
-//! The requirements (the project's document 01) say what each door returns and
-//! leaves in every buffer, on all inputs, and the library is proved to do that. This
+//! docs/REFERENCE.md of the project says what each door returns and leaves in
+//! every buffer, on all inputs, and the library is proved to do that. This
 //! crate is not proved: it lays out the bytes of a batch and reads those of answers
 //! and of pools that check has found sound.
 //!

@@ -5,7 +5,7 @@ use std::fmt;
 
 /// Why a door did nothing. The buffers that were lent to it are as they were.
 ///
-/// Its text is the name that the requirements give it.
+/// Its text is the name that docs/REFERENCE.md gives it.
 ///
 /// ```
 /// use zimatuno::DoorError;
@@ -45,7 +45,7 @@ impl DoorError {
         Self::ALL.iter().copied().find(|e| e.code() == code)
     }
 
-    /// The name that the requirements give it.
+    /// The name that docs/REFERENCE.md gives it.
     pub const fn name(self) -> &'static str {
         match self {
             DoorError::Damaged => "DAMAGED",
@@ -74,7 +74,7 @@ impl Error for DoorError {}
 
 /// Why a command was refused. It changed nothing in the pool.
 ///
-/// Its text is the name that the requirements give it. A command is checked in
+/// Its text is the name that docs/REFERENCE.md gives it. A command is checked in
 /// this order: `BadOp`; `BadTree`, `BadCursor`, `NoMark` or `MarkOpen`;
 /// `BadName`; `BadSlot`; `Stale`; `OtherTree`; `Present`, `Order` or `None`;
 /// `NoSlot`; `NoText`; `NoStamp`. The first that applies is the answer.
@@ -152,7 +152,7 @@ impl Refusal {
         Self::ALL.iter().copied().find(|r| r.code() == code)
     }
 
-    /// The name that the requirements give it.
+    /// The name that docs/REFERENCE.md gives it.
     pub const fn name(self) -> &'static str {
         match self {
             Refusal::BadOp => "BAD_OP",
@@ -187,7 +187,7 @@ mod tests {
     use super::*;
 
     #[test]
-    fn numbers_and_names_are_those_of_the_requirements() {
+    fn numbers_and_names_are_those_of_the_reference() {
         let doors: Vec<_> = DoorError::ALL.iter().map(|e| (e.code(), e.name())).collect();
         assert_eq!(doors, [(1, "DAMAGED"), (2, "BAD_BATCH"), (3, "BAD_OUT"), (4, "BAD_SIZE")]);
         let codes: Vec<_> = Refusal::ALL.iter().map(|r| r.code()).collect();

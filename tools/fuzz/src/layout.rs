@@ -1,4 +1,4 @@
-//! What the requirements say of lengths and places: enough to say which number a door has to
+//! What docs/REFERENCE.md says of lengths and places: enough to say which number a door has to
 //! return, given what check says of the pool.
 
 pub fn u16_at(bytes: &[u8], at: usize) -> u16 {

@@ -1,4 +1,4 @@
-//! P1 to P10 of the requirements.
+//! P1 to P10 of docs/REFERENCE.md.
 
 use crate::support::{adds, fresh, handle, listing, pool_with, refusals, shape};
 use zimatuno::{name, Batch, CursorKind, Refusal};
@@ -25,7 +25,7 @@ fn p1_to_p6() {
 }
 
 #[test]
-fn p1_is_listed_as_the_requirements_print_it() {
+fn p1_is_listed_as_the_reference_prints_it() {
     let lines = ["pool 4 1 3 3 4", "1 1 1 1 2 0 61", "1 2 2 2 0 0 62", "1 3 3 3 2 0 63"];
     assert_eq!(listing(&pool_with(4, &[1, 2, 3])), lines);
 }

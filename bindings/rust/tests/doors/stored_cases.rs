@@ -1,6 +1,6 @@
 //! The project's stored calls of the doors, crates/cases/stdin, made through these
 //! bindings: what they return is compared line by line with crates/cases/stdout, which
-//! a model written from the requirements alone has computed.
+//! a model written from the reference alone has computed.
 //!
 //! A call is a kind (u8) and its fields, as crates/cases/src/main.rt describes them.
 

@@ -1,4 +1,24 @@
-// Rotations.
+// Rotations. A rotation mends a record x whose side d has become two higher than its other side z: a record from
+// that side takes the place of x, x goes down on the other side, and the order of all records stays. Which of the
+// two it is goes by c, the child of x on side d. Drawn for the left side; the right one is the mirror image.
+//
+//   single: c is higher on side d, or even            double: c is higher on the other side
+//
+//          x                c                               x                   g
+//         / \              / \                             / \                /   \
+//        c   z     ->     a   x                           c   z      ->      c     x
+//       / \                  / \                         / \               / \   / \
+//      a   w                w   z                       a   g             a   u v   z
+//                                                          / \
+//                                                         u   v
+//
+//   c was      x is then      c is then               g was           c is then    x is then     g is then
+//   on side d  even           even                    even            even         even          even
+//   even       on side d      on the other side       on side d       even         other side    even
+//                                                     other side      on side d    even          even
+//
+// After a single rotation over an even c the part is as high as before, and a climb stops there; it can be met
+// in a removal alone. After every other the part is one lower than it had become.
 ghost use mathlib.Core.Path.{_≡_};
 ghost use mathlib.Core.Bool.{cond, _||_};
 ghost use Rattle.tree.specs.Node.{way};

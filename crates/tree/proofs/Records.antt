@@ -48,11 +48,11 @@ module _ (k : ℕ → Links) (c : ℕ → Cargo) (N : ℕ) (tail : List ℕ) (ro
   abbrev bare : List ℕ
   bare = section k c N ++ tail
 
-  roomy : Roomy N bare
+  pub roomy : Roomy N bare
   roomy = record { slots-high = rows .few; long = omega (arith, length-append (section k c N) tail, length-section k c N (rows .whole)) }
 
   -- they are the records that hold it, once its links are written over them
-  rows-held : (t : Tree) → Fits N t → over t 0 bare ≡ holding t k c N tail
+  pub rows-held : (t : Tree) → Fits N t → over t 0 bare ≡ holding t k c N tail
   unfolding holding
   rows-held t f = section-over t 0 k c N tail (rows .whole) (f .once)
 

@@ -37,6 +37,7 @@ pub mod Entries
 pub mod Among
 pub mod Sights
 pub mod Determined
+pub mod DoorsDetermined
 pub mod Chains
 pub mod Demand1Doors
 pub mod Demand1

@@ -68,3 +68,5 @@ pub mod Given
 pub mod ShownHandles
 pub mod KeptHandles
 pub mod RollbackCase
+pub mod Answers
+pub mod ToldHandles

@@ -9,3 +9,4 @@ pub mod Listing
 pub mod WellFormed
 pub mod Meant
 pub mod Calls
+pub mod Told

@@ -70,3 +70,5 @@ pub mod KeptHandles
 pub mod RollbackCase
 pub mod Answers
 pub mod ToldHandles
+pub mod ToldShuts
+pub mod ToldGone

@@ -39,7 +39,7 @@ unfolding isStale
 stale-only {p} {x} {g} h = record { only = λ r e s. never (sym (ap (isStale g) e) ∙ h) (ap not (eq-eqb (r .stamp) g s)) }
 
 -- If it holds none, the test says so.
-only-stale : {p : Pool} {x g : ℕ} → Only x g Nothing p → isStale g (recAt p x) ≡ true
+pub only-stale : {p : Pool} {x g : ℕ} → Only x g Nothing p → isStale g (recAt p x) ≡ true
 unfolding isStale
 only-stale {p} {x} {g} h = go (recAt p x) refl
   where

@@ -61,7 +61,7 @@ mark-told pool request answers before mark between rest = (
 )
 
 -- the point of a command between the mark and what follows
-between-point : {pool request answers : List ℕ} {before : List Command} {mark : Command} (between rest : List Command)
+pub between-point : {pool request answers : List ℕ} {before : List Command} {mark : Command} (between rest : List Command)
     → Point pool request answers before (mark ∷ (between ++ rest)) → (first : List Command) (c : Command) (others : List Command)
     → between ≡ first ++ (c ∷ others) → Point pool request answers (before ++ (mark ∷ first)) (c ∷ (others ++ rest))
 between-point {before = before} {mark = mark} between rest p first c others e =

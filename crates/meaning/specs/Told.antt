@@ -2,11 +2,11 @@
 use mathlib.Core.Bool.{true, cond}
 use mathlib.Core.List.{List, [], _∷_, _++_}
 use mathlib.Core.Path.{_≡_}
-use Prim.Native.Nat.{ℕ, _*_}
+use Prim.Native.Nat.{ℕ, _*_, _<_}
 use lib.ListN.{length, getD, replicate}
 use Rattle.fields.specs.Part.{part}
 use Rattle.meaning.specs.Layout.{within}
-use Rattle.meaning.specs.Pool.{nSlots, nTrees}
+use Rattle.meaning.specs.Pool.{nSlots, nTrees, nextStamp}
 use Rattle.meaning.specs.Cursor.{Command}
 use Rattle.meaning.specs.Command.{adding}
 use Rattle.meaning.specs.Doors.{commands, batch, name}
@@ -70,6 +70,28 @@ pub record ToldRemoved (pool request answers : List ℕ) (before : List Command)
   pub done : codeAt (batch pool request answers .answers) (length before) ≡ 0
   pub slot-shown : shownSlot (answerAt (batch pool request answers .answers) (length before)) ≡ slot
   pub stamp-shown : shownStamp (answerAt (batch pool request answers .answers) (length before)) ≡ stamp
+
+-- no command among these is a mark
+pub data NoMark : List Command → Type 0 where
+  none-else : NoMark []
+  one-else : {c : Command} {cs : List Command} → (c .op ≡ 26 → ⊥) → NoMark cs → NoMark (c ∷ cs)
+
+-- no mark is open at the point after the commands `before`: there was none since the batch began, or none since a rollback or a commit whose answer has
+-- the code 0
+pub data ToldShut (pool request answers : List ℕ) (before : List Command) : Type 0 where
+  since-start : NoMark before → ToldShut pool request answers before
+  since-close : (earlier : List Command) (close : Command) (since : List Command) → before ≡ earlier ++ (close ∷ since)
+      → within 27 28 (close .op) ≡ true → codeAt (batch pool request answers .answers) (length earlier) ≡ 0 → NoMark since
+      → ToldShut pool request answers before
+
+-- the stamp was handed out before the point after the commands `before`: it is below the next stamp of the pool's header, or an answer before that point,
+-- with the code 0 and a slot that is not 0, shows it
+pub data ToldOut (pool request answers : List ℕ) (before : List Command) (stamp : ℕ) : Type 0 where
+  in-header : stamp < nextStamp pool → ToldOut pool request answers before stamp
+  in-answer : (earlier : List Command) (c : Command) (since : List Command) → before ≡ earlier ++ (c ∷ since)
+      → codeAt (batch pool request answers .answers) (length earlier) ≡ 0
+      → (shownSlot (answerAt (batch pool request answers .answers) (length earlier)) ≡ 0 → ⊥)
+      → shownStamp (answerAt (batch pool request answers .answers) (length earlier)) ≡ stamp → ToldOut pool request answers before stamp
 
 -- to unfold this is to unfold all of this file: for claims that compute
 unfoldable pub opened : Unit {0}

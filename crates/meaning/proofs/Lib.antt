@@ -72,3 +72,4 @@ pub mod Answers
 pub mod ToldHandles
 pub mod ToldShuts
 pub mod ToldGone
+pub mod LiveHandles

@@ -93,6 +93,13 @@ pub data ToldOut (pool request answers : List ℕ) (before : List Command) (stam
       → (shownSlot (answerAt (batch pool request answers .answers) (length earlier)) ≡ 0 → ⊥)
       → shownStamp (answerAt (batch pool request answers .answers) (length earlier)) ≡ stamp → ToldOut pool request answers before stamp
 
+-- ---- a handle that lives
+
+-- the code with which a command by handle is accepted: 0, or for next and previous 19 where there is no record on that side
+pub data AcceptedWith (c : Command) (code : ℕ) : Type 0 where
+  with-done : code ≡ 0 → AcceptedWith c code
+  with-none : within 5 6 (c .op) ≡ true → code ≡ 19 → AcceptedWith c code
+
 -- to unfold this is to unfold all of this file: for claims that compute
 unfoldable pub opened : Unit {0}
 unfolding answerAt codeAt goneNumber goneAnswer

@@ -64,7 +64,7 @@ module _ (s : State) (c : Command) where
   beside-order left h z = passed s c z .key-before h
   beside-order right h z = passed s c z .key-behind h
 
-  beside-tree : (d : Dir) → among (besideOps d) (c .op) ≡ true → refusal s c ≡ 0 → treeOf s c ≡ cursorTree (s .cursor)
+  pub beside-tree : (d : Dir) → among (besideOps d) (c .op) ≡ true → refusal s c ≡ 0 → treeOf s c ≡ cursorTree (s .cursor)
   beside-tree d h z = tree-is (passed s c z) ∙ ap (λ (b : Bool). cond b (c .tree) (cursorTree (s .cursor))) (beside-ops d (c .op) h .1)
 
 -- the key lies short of whatever follows next

@@ -73,3 +73,5 @@ pub mod ToldHandles
 pub mod ToldShuts
 pub mod ToldGone
 pub mod LiveHandles
+pub mod Demand2Places
+pub mod StoredShapes

@@ -10,3 +10,4 @@ pub mod WellFormed
 pub mod Meant
 pub mod Calls
 pub mod Told
+pub mod Places

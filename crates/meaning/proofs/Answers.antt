@@ -15,7 +15,7 @@ use Rattle.fields.specs.Part.{part}
 use Rattle.fields.proofs.Parts.{within?, part-in, part-out}
 use Rattle.meaning.specs.Layout.{pack, within}
 use Rattle.meaning.specs.Pool.{Rec, nSlots, nTrees, entries, records, read}
-use Rattle.meaning.specs.Cursor.{Command, Cursor, nowhere, State, kind}
+use Rattle.meaning.specs.Cursor.{Command, Cursor, nowhere, occupied, vacant, firstEntry, lastEntry, State, kind}
 use Rattle.meaning.specs.Command.{badTree, badSlot, opOf, refusal, afterRefusal, answer, refused, carriedOut, perform}
 use Rattle.meaning.specs.Doors.{run, begun, batchRefusal, carriedOut as carried, batch}
 use Rattle.meaning.specs.Calls.{Point, stateAfter, ByHandle, staleNumber}
@@ -79,6 +79,34 @@ module _ {pool request answers : List ℕ} {before : List Command} {c : Command}
       part-first (batch pool request answers .answers) (24 * length before) 23 (ap length answer-told ∙ answer-long s c)
       ∙ ap (λ (l : List ℕ). getD l 0 0) answer-told ∙ code-of s c
 
+-- ---- a refused command
+
+kind-low : (k : Cursor) → kind k ≤ 4
+unfolding kind
+kind-low nowhere = omega arith
+kind-low (occupied t x) = omega arith
+kind-low (vacant t x d k) = omega arith
+kind-low (firstEntry t x) = omega arith
+kind-low (lastEntry t x) = omega arith
+
+packed : (e k : ℕ) → e ≤ 24 → k ≤ 4 → pack ((1, e) ∷ (1, k) ∷ (22, 0) ∷ []) ≡ e ∷ k ∷ replicate 22 0
+unfolding pack digits
+packed e k h l =
+    ap (λ (m : ℕ). m ∷ (k % 256) ∷ replicate 22 0) (let i : e % 256 ≡ e = omega (arith, h) in i)
+    ∙ ap (λ (m : ℕ). e ∷ m ∷ replicate 22 0) (let i : k % 256 ≡ k = omega (arith, l) in i)
+
+-- Every refused command of a batch is answered with 24 bytes: its number, the cursor kind after it, and 22 zeros.
+pub refused-told : {pool request answers : List ℕ} {before : List Command} {c : Command} {rest : List Command}
+    → Point pool request answers before (c ∷ rest) → (codeAt (batch pool request answers .answers) (length before) ≡ 0 → ⊥)
+    → let s = stateAfter pool before in
+    answerAt (batch pool request answers .answers) (length before) ≡ refusal s c ∷ kind (perform s c .state .cursor) ∷ replicate 22 0
+refused-told {pool = pool} {before = before} {c = c} p n =
+    let s = stateAfter pool before in
+    let e = refusal s c in
+    let m : (e ≡ 0 → ⊥) = λ z. n (code-told p ∙ z) in
+    answer-told p ∙ refused-command s c e refl m .answer
+    ∙ packed e (kind (perform s c .state .cursor)) (no-others s c m .1) (kind-low (perform s c .state .cursor))
+
 -- ---- a handle that has gone
 
 -- the pool keeps as many trees and slots as its header counts
@@ -115,16 +143,12 @@ cursor-lost : (n e : ℕ) (k : Cursor) → within 4 6 n ≡ true → afterRefusa
 unfolding afterRefusal within
 cursor-lost n e k h = four-to-six (λ m. afterRefusal m e k ≡ nowhere) refl refl refl n h
 
-packed : (e : ℕ) → e ≤ 15 → pack ((1, e) ∷ (1, kind nowhere) ∷ (22, 0) ∷ []) ≡ e ∷ 0 ∷ replicate 22 0
-unfolding pack digits kind
-packed e h = ap (λ (m : ℕ). m ∷ 0 ∷ replicate 22 0) (let i : e % 256 ≡ e = omega (arith, h) in i)
-
 -- A command that is refused because its handle has gone is answered with the number, the cursor kind 0 and zeros.
 pub gone-told : {pool request answers : List ℕ} {before : List Command} {c : Command} {rest : List Command}
     → Point pool request answers before (c ∷ rest) → within 4 6 (c .op) ≡ true
     → refusal (stateAfter pool before) c ≡ staleNumber (stateAfter pool before) c
     → answerAt (batch pool request answers .answers) (length before) ≡ goneAnswer pool c
-unfolding goneAnswer
+unfolding goneAnswer kind
 gone-told {pool = pool} {before = before} {c = c} p o h =
     let s = stateAfter pool before in
     let e = goneNumber pool c in
@@ -132,7 +156,7 @@ gone-told {pool = pool} {before = before} {c = c} p o h =
     let l = refused-command s c e (h ∙ gone-number pool before c) (λ z. omega (arith, k .0, z)) in
     answer-told p ∙ l .answer
     ∙ ap (λ (m : Cursor). pack ((1, e) ∷ (1, kind m) ∷ (22, 0) ∷ [])) (l .cursor ∙ cursor-lost (c .op) e (s .cursor) o)
-    ∙ packed e (k .1)
+    ∙ packed e (kind nowhere) (omega (arith, k .1)) (kind-low nowhere)
 
 -- What is so answered is so refused.
 pub told-gone : {pool request answers : List ℕ} {before : List Command} {c : Command} {rest : List Command}

@@ -51,7 +51,7 @@ abbrev pub besideOps : Dir → List (ℕ × ℕ)
 besideOps d = pick d ((16, 16) ∷ (18, 18) ∷ (25, 25) ∷ []) ((17, 17) ∷ (19, 19) ∷ (24, 24) ∷ [])
 
 -- they add, and use the cursor's tree
-beside-ops : (d : Dir) (n : ℕ) → among (besideOps d) n ≡ true → (adding n ≡ true) × (within 1 11 n ≡ false)
+pub beside-ops : (d : Dir) (n : ℕ) → among (besideOps d) n ≡ true → (adding n ≡ true) × (within 1 11 n ≡ false)
 unfolding among adding within span
 beside-ops left n h =
     among-all (λ n. (adding n ≡ true) × (within 1 11 n ≡ false)) (besideOps left) n h (more (refl, refl) (more (refl, refl) (more (refl, refl) nil)))

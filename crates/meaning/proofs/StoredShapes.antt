@@ -25,12 +25,22 @@ use Rattle.meaning.specs.Meant.{entriesOf, removing}
 use Rattle.meaning.specs.Calls.{Point, stateAfter}
 use Rattle.meaning.specs.Told.{codeAt, ToldShut}
 use Rattle.meaning.specs.Places.{Stands, StoredLinks, StoredTree}
+use Rattle.meaning.proofs.Adding.{adding-ok}
 use Rattle.meaning.proofs.Answers.{code-told}
+use Rattle.meaning.proofs.Batches.{AllParsed, and-then, ended-good}
+use Rattle.meaning.proofs.Cursors.{lives-tree}
 use Rattle.meaning.proofs.Demand2.{count-of-tree, links-of-record, root-of-tree}
+use Rattle.meaning.proofs.Demand2Places.{inserted-there, beside-there, removed-there}
+use Rattle.meaning.proofs.Demand2Shapes.{besideOps, beside-ops}
 use Rattle.meaning.proofs.Entries.{entryAt}
 use Rattle.meaning.proofs.Facts.{bit-one, length-rows}
+use Rattle.meaning.proofs.Good.{Parsed}
 use Rattle.meaning.proofs.Members.{Lives, lives}
-use Rattle.meaning.proofs.Pools.{sound-pool}
+use Rattle.meaning.proofs.Points.{batch-stored, point-good, point-parsed, point-leaves, point-on, state-on}
+use Rattle.meaning.proofs.Pools.{sound-pool, good-state}
+use Rattle.meaning.proofs.Seen.{finds}
+use Rattle.meaning.proofs.Sizes.{command-sizes}
+use Rattle.meaning.proofs.ToldShuts.{shut-at}
 
 -- Every tree of a sound pool is stored as the tree that its bytes are read as.
 pub stored-tree : (pool : List ℕ) → Bytes pool → sound pool ≡ true → (t : ℕ) → 1 ≤ t → t ≤ nTrees pool → StoredTree pool t (treeAt (read pool) t)
@@ -55,3 +65,91 @@ stored-tree b a s t low high =
             balance-is = k .balance-is ∙ ap (λ (v : Links). v .balance) e;
           };
     }
+
+-- ---- the last command of a batch
+
+first-parsed : {c : Command} {cs : List Command} → AllParsed (c ∷ cs) → Parsed c
+first-parsed (and-then h hs) = h
+
+module _ {pool request answers : List ℕ} {before : List Command} {c : Command} (p : Point pool request answers before (c ∷ []))
+    (closed : ToldShut pool request answers (before ++ (c ∷ []))) where
+  -- The pool that the batch leaves is read as the pool after its last command, if no mark is open then.
+  final-pool : read (batch pool request answers .pool) ≡ perform (stateAfter pool before) c .state .pool
+  unfolding run ended rolledBack
+  final-pool =
+      let u = stateAfter pool (before ++ (c ∷ [])) in
+      let q = point-on {rest = []} (c ∷ []) p in
+      let g = point-good q in
+      let same : ended u ≡ u .pool = ap (λ (m : Option Mark). rolledBack m (u .pool)) (shut-at q closed) in
+      ap read (point-leaves p) ∙ good-state (ended u) (ended-good (g .0) u (g .1)) .2 ∙ same
+      ∙ ap (λ (t : State). t .pool) (state-on pool before (c ∷ []))
+
+  -- Its bytes store every tree as it is after the last command.
+  pub final-tree : (t : ℕ) → 1 ≤ t → t ≤ length (stateAfter pool before .pool .trees)
+      → StoredTree (batch pool request answers .pool) t (treeAt (perform (stateAfter pool before) c .state .pool) t)
+  unfolding read entries
+  final-tree t low high =
+      let b = batch pool request answers .pool in
+      let h = batch-stored p in
+      let trees : length (read b .trees) ≡ nTrees b = length-map (entries b) _ ∙ length-rows (nTrees b) 8 _ in
+      let same : length (read b .trees) ≡ length (perform (stateAfter pool before) c .state .pool .trees) =
+      ap (λ (v : Pool). length (v .trees)) final-pool in
+      let kept = command-sizes (stateAfter pool before) c .trees in
+      subst (λ (v : Pool). StoredTree b t (treeAt v t)) final-pool
+      (stored-tree b (h .are-bytes) (h .is-sound) t low (omega (arith, high, trees, same, kept)))
+
+  -- The last command of a batch adds a record, answered with 0, and no mark is open after it. The search for its key ends at an empty place of its tree, and
+  -- the bytes of the pool that the batch leaves store the tree that `_insert` gives there.
+  pub inserted-stored : adding (c .op) ≡ true → codeAt (batch pool request answers .answers) (length before) ≡ 0 → let s = stateAfter pool before in
+      (q : Way) × (entry (byKeyIn (s .pool) (c .key)) (treeAt (s .pool) (treeOf s c)) ≡ record { part = leaf; way = q })
+      × StoredTree (batch pool request answers .pool) (treeOf s c) (insert q (freeSlot (s .pool)))
+  inserted-stored h z =
+      let s = stateAfter pool before in
+      let b = batch pool request answers .pool in
+      let t = treeOf s c in
+      let g = point-good p in
+      let parsed = first-parsed (point-parsed p) in
+      let done = sym (code-told p) ∙ z in
+      let can = adding-ok (g .0) s c parsed (g .1) h done in
+      let k = inserted-there (g .0) s c (g .1) parsed h done in
+      (k .0, k .1, subst (StoredTree b t) (k .2) (final-tree t (can .tree-low) (can .tree-high)))
+
+  -- It puts a record in on side d of the one that the cursor stands at: the bytes store the tree that `_insert_here` gives there.
+  pub beside-stored : (d : Dir) → among (besideOps d) (c .op) ≡ true → codeAt (batch pool request answers .answers) (length before) ≡ 0
+      → let s = stateAfter pool before in (standing (s .cursor) ≡ 0 → ⊥)
+      → (k : Stands d (standing (s .cursor)) (treeAt (s .pool) (treeOf s c)))
+      × StoredTree (batch pool request answers .pool) (treeOf s c)
+      (insertHere d (k .near) (standing (s .cursor)) (k .bal) (k .far) (k .way) (freeSlot (s .pool)))
+  beside-stored d h z n =
+      let s = stateAfter pool before in
+      let g = point-good p in
+      let parsed = first-parsed (point-parsed p) in
+      let done = sym (code-told p) ∙ z in
+      let can = adding-ok (g .0) s c parsed (g .1) (beside-ops d (c .op) h .0) done in
+      let k = beside-there (g .0) s c (g .1) parsed d h done n in
+      (k .0, stores (k .0) (k .1) (final-tree (treeOf s c) (can .tree-low) (can .tree-high)))
+    where
+      s : State
+      s = stateAfter pool before
+
+      stores : (k : Stands d (standing (s .cursor)) (treeAt (s .pool) (treeOf s c)))
+          → treeAt (perform s c .state .pool) (treeOf s c)
+          ≡ insertHere d (k .near) (standing (s .cursor)) (k .bal) (k .far) (k .way) (freeSlot (s .pool))
+          → StoredTree (batch pool request answers .pool) (treeOf s c) (treeAt (perform s c .state .pool) (treeOf s c))
+          → StoredTree (batch pool request answers .pool) (treeOf s c)
+          (insertHere d (k .near) (standing (s .cursor)) (k .bal) (k .far) (k .way) (freeSlot (s .pool)))
+      stores k e i = subst (StoredTree (batch pool request answers .pool) (treeOf s c)) e i
+
+  -- It removes a record: the record that it means stands in its tree, and the bytes store the tree that `_remove` gives there.
+  pub removed-stored : removing (c .op) ≡ true → codeAt (batch pool request answers .answers) (length before) ≡ 0 → let s = stateAfter pool before in
+      (k : Stands left (meant s c) (treeAt (s .pool) (treeOf s c)))
+      × StoredTree (batch pool request answers .pool) (treeOf s c) (remove (k .near) (k .bal) (k .far) (k .way))
+  removed-stored h z =
+      let s = stateAfter pool before in
+      let b = batch pool request answers .pool in
+      let t = treeOf s c in
+      let g = point-good p in
+      let done = sym (code-told p) ∙ z in
+      let i = lives-tree (s .pool) (g .1 .pool) t (meant s c) (finds (g .0) s c (g .1) h done .0) in
+      let k = removed-there (g .0) s c (g .1) h done in
+      (k .0, subst (StoredTree b t) (k .1) (final-tree t (i .0) (i .1)))

@@ -1,13 +1,13 @@
 -- An answer's bytes: the first is the number by which the command is refused, 0 if it is done; and the whole answer of a command whose handle has
 -- gone. Assumes nothing.
 use mathlib.Core.Bool.{Bool, true, false, not, cond}
-use mathlib.Core.List.{List, [], _∷_, _++_}
+use mathlib.Core.List.{List, [], _∷_}
 use mathlib.Core.Option.{Option, none, some}
-use mathlib.Core.Path.{_≡_, refl, sym, ap, _∙_, subst}
-use Prim.Native.Nat.{ℕ, zero, suc, _+_, _*_, _%_, _≤_, _<_}
+use mathlib.Core.Path.{_≡_, refl, sym, ap, _∙_}
+use Prim.Native.Nat.{ℕ, suc, _+_, _*_, _%_, _≤_}
 use native.Mathlib.Omega.{arith}
 use lib.Dec.{eqb}
-use lib.ListN.{length, take, drop, getD, replicate, length-map}
+use lib.ListN.{length, drop, getD, replicate, length-map}
 use lib.Seq.{getD-take, getD-drop}
 use borrow.Author.Tests.{eqb-true, eqb-false}
 use Rattle.fields.specs.Number.{digits}
@@ -17,8 +17,8 @@ use Rattle.meaning.specs.Layout.{pack, within}
 use Rattle.meaning.specs.Pool.{Rec, nSlots, nTrees, entries, records, read}
 use Rattle.meaning.specs.Cursor.{Command, Cursor, nowhere, occupied, vacant, firstEntry, lastEntry, State, kind}
 use Rattle.meaning.specs.Command.{badTree, badSlot, opOf, refusal, afterRefusal, answer, refused, carriedOut, perform}
-use Rattle.meaning.specs.Doors.{run, begun, batchRefusal, carriedOut as carried, batch}
-use Rattle.meaning.specs.Calls.{Point, stateAfter, ByHandle, staleNumber}
+use Rattle.meaning.specs.Doors.{begun, batchRefusal, carriedOut as carried, batch}
+use Rattle.meaning.specs.Calls.{Point, stateAfter, staleNumber}
 use Rattle.meaning.specs.Told.{answerAt, codeAt, goneNumber, goneAnswer}
 use Rattle.meaning.proofs.Demand1.{refused-command, no-others}
 use Rattle.meaning.proofs.Demand2.{in-turn}

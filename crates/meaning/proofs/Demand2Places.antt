@@ -1,14 +1,13 @@
 -- Demand 2, the places: the premises of the laws of Demand2Shapes always hold. A record that is removed, and one that the cursor stands at, stands in its
 -- tree, and the search for a key that is added ends at an empty place. Assumes nothing.
-use mathlib.Core.Bool.{Bool, true, false, cond}
-use mathlib.Core.List.{List, [], _∷_, _++_}
+use mathlib.Core.Bool.{true}
+use mathlib.Core.List.{_∷_, _++_}
 use mathlib.Core.Option.{Option}
 use mathlib.Core.Path.{_≡_, refl, sym, ap, _∙_, subst}
-use Prim.Native.Nat.{ℕ, _+_, _≤_, Ordering, Ordering·eq}
+use Prim.Native.Nat.{ℕ, _+_, _≤_}
 use native.Mathlib.Decide.{decLe}
 use native.Mathlib.Omega.{arith}
 use lib.Dec.{eqb}
-use lib.ListN.{length}
 use borrow.Author.Tests.{eqb-true, eqb-false}
 use Rattle.avl.specs.Tree.{Dir, left, right, pick, Tree, leaf, node, branch, list}
 use Rattle.avl.specs.Way.{Way, root, step, plug, before, after}
@@ -20,9 +19,9 @@ use Rattle.avl.proofs.Keys.{same-key, keys, key-exact}
 use Rattle.avl.proofs.Sides.{node-branch}
 use Rattle.avl.proofs.Sorting.{all-back, all-head}
 use Rattle.meaning.specs.Layout.{bit, within, count}
-use Rattle.meaning.specs.Pool.{Pool, recAt, treeAt, keyAt, livesIn}
+use Rattle.meaning.specs.Pool.{Pool, treeAt, keyAt}
 use Rattle.meaning.specs.Change.{byKeyIn, freeSlot}
-use Rattle.meaning.specs.Cursor.{Command, State, cursorTree, standing, treeOf}
+use Rattle.meaning.specs.Cursor.{Command, State, standing, treeOf}
 use Rattle.meaning.specs.Command.{meant, notAtRecord, among, adding, refusal, perform}
 use Rattle.meaning.specs.WellFormed.{WellFormed}
 use Rattle.meaning.specs.Meant.{removing}

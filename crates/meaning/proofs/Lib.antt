@@ -75,3 +75,4 @@ pub mod ToldGone
 pub mod LiveHandles
 pub mod Demand2Places
 pub mod StoredShapes
+pub mod ToldCase

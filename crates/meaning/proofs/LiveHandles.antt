@@ -1,15 +1,14 @@
 -- A live record's handle is accepted by the door batch: ops 4 to 6 in its tree are not refused for their tree, slot or handle. Assumes nothing.
-use mathlib.Core.Bool.{Bool, true, false, not, cond}
+use mathlib.Core.Bool.{Bool, true, false, cond}
 use mathlib.Core.List.{List, [], _∷_}
 use mathlib.Core.Option.{some}
 use mathlib.Core.Path.{_≡_, refl, sym, _∙_, subst}
 use Prim.Native.Nat.{ℕ}
 use native.Mathlib.Omega.{arith}
-use lib.Dec.{leb, eqb}
 use lib.ListN.{length}
 use borrow.Author.Tests.{eq-eqb, le-leb}
 use Rattle.meaning.specs.Layout.{within}
-use Rattle.meaning.specs.Pool.{Rec, recAt, read}
+use Rattle.meaning.specs.Pool.{Rec, recAt}
 use Rattle.meaning.specs.Cursor.{Command, State}
 use Rattle.meaning.specs.Command.{always, badTree, badSlot, isStale, stale, isElsewhere, otherTree, noneThere, among, unknown, adding, refuse_at_if_, refusals, firstOf, refusal}
 use Rattle.meaning.specs.Doors.{run, begun, batch, name}

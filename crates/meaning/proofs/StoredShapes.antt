@@ -2,29 +2,27 @@
 -- Assumes nothing.
 use mathlib.Core.Bool.{true}
 use mathlib.Core.List.{List, [], _∷_, _++_}
-use mathlib.Core.Option.{Option, none, some}
-use mathlib.Core.Path.{_≡_, refl, sym, ap, _∙_, subst}
+use mathlib.Core.Option.{Option}
+use mathlib.Core.Path.{_≡_, sym, ap, _∙_, subst}
 use Prim.Native.Nat.{ℕ, _≤_}
 use native.Mathlib.Omega.{arith}
-use lib.Dec.{eqb}
 use lib.ListN.{length, length-map}
 use Rattle.fields.specs.Number.{Bytes}
-use Rattle.avl.specs.Tree.{Dir, left, Tree, leaf, list}
+use Rattle.avl.specs.Tree.{Dir, left, leaf, list}
 use Rattle.avl.specs.Way.{Way}
 use Rattle.avl.specs.Edit.{insert, insertHere, remove}
 use Rattle.avl.specs.Search.{entry}
-use Rattle.avl.specs.Links.{Links, unlinked, linksIn}
-use Rattle.meaning.specs.Layout.{bit, count, at}
-use Rattle.meaning.specs.Pool.{Pool, treeAt, linksAt, livesIn, recAt, bytes, nTrees, countOf, entries, records, read}
+use Rattle.avl.specs.Links.{Links}
+use Rattle.meaning.specs.Pool.{Pool, treeAt, linksAt, livesIn, recAt, nTrees, entries, read}
 use Rattle.meaning.specs.Sound.{sound}
 use Rattle.meaning.specs.Change.{byKeyIn, freeSlot, Mark, rolledBack}
 use Rattle.meaning.specs.Cursor.{Command, State, standing, treeOf}
-use Rattle.meaning.specs.Command.{meant, among, adding, refusal, perform}
+use Rattle.meaning.specs.Command.{meant, among, adding, perform}
 use Rattle.meaning.specs.Doors.{run, ended, batch}
 use Rattle.meaning.specs.Meant.{entriesOf, removing}
 use Rattle.meaning.specs.Calls.{Point, stateAfter}
 use Rattle.meaning.specs.Told.{codeAt, ToldShut}
-use Rattle.meaning.specs.Places.{Stands, StoredLinks, StoredTree}
+use Rattle.meaning.specs.Places.{Stands, StoredTree}
 use Rattle.meaning.proofs.Adding.{adding-ok}
 use Rattle.meaning.proofs.Answers.{code-told}
 use Rattle.meaning.proofs.Batches.{AllParsed, and-then, ended-good}
@@ -35,7 +33,7 @@ use Rattle.meaning.proofs.Demand2Shapes.{besideOps, beside-ops}
 use Rattle.meaning.proofs.Entries.{entryAt}
 use Rattle.meaning.proofs.Facts.{bit-one, length-rows}
 use Rattle.meaning.proofs.Good.{Parsed}
-use Rattle.meaning.proofs.Members.{Lives, lives}
+use Rattle.meaning.proofs.Members.{lives}
 use Rattle.meaning.proofs.Points.{batch-stored, point-good, point-parsed, point-leaves, point-on, state-on}
 use Rattle.meaning.proofs.Pools.{sound-pool, good-state}
 use Rattle.meaning.proofs.Seen.{finds}

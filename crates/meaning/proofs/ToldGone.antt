@@ -1,6 +1,5 @@
 -- Handles that have gone, over the bytes of the answers: a record removed, removed under a mark that is committed, added and removed under a mark, or
 -- reset. What the answers said before tells what every later answer says. Assumes nothing.
-use mathlib.Core.Bool.{true}
 use mathlib.Core.List.{List, [], _∷_, _++_, append-assoc}
 use mathlib.Core.Logic.{_⊎_, inl, inr}
 use mathlib.Core.Option.{some}
@@ -8,18 +7,18 @@ use mathlib.Core.Path.{_≡_, refl, sym, ap, _∙_, subst}
 use Prim.Native.Nat.{ℕ, suc, _≤_, _<_}
 use native.Mathlib.Omega.{arith}
 use lib.ListN.{length}
-use Rattle.meaning.specs.Pool.{Rec, recAt, read}
+use Rattle.meaning.specs.Pool.{recAt, read}
 use Rattle.meaning.specs.Cursor.{Command, State}
 use Rattle.meaning.specs.Command.{meant, perform}
 use Rattle.meaning.specs.Doors.{run, begun, batch}
 use Rattle.meaning.specs.WellFormed.{WellFormed}
-use Rattle.meaning.specs.Calls.{Point, stateAfter, Inside, none-more, one-more, RefusedFrom, shownSlot, shownStamp}
+use Rattle.meaning.specs.Calls.{Point, stateAfter, Inside, one-more, RefusedFrom, shownSlot, shownStamp}
 use Rattle.meaning.specs.Told.{answerAt, codeAt, ToldGoneFrom, ToldMark, ToldAdded, ToldRemoved, ToldShut, ToldOut, in-header, in-answer}
 use Rattle.meaning.proofs.Answers.{answer-told, code-told}
 use Rattle.meaning.proofs.Bindings.{next-keeps}
 use Rattle.meaning.proofs.Given.{removed-now}
 use Rattle.meaning.proofs.KeptHandles.{gone-since-mark, removed-for-ever, committed-for-ever, reset-for-ever}
-use Rattle.meaning.proofs.Points.{Anything, later-keeps, point-keeps, point-stored, point-good, point-on, state-on}
+use Rattle.meaning.proofs.Points.{later-keeps, point-good, point-on, state-on}
 use Rattle.meaning.proofs.Rollbacks.{open-point, added-range}
 use Rattle.meaning.proofs.ShownHandles.{Given, answer-given}
 use Rattle.meaning.proofs.StaleHandles.{only-stale}

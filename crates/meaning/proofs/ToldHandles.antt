@@ -1,8 +1,7 @@
 -- Demand 3 over the bytes of the answers: what is told of a handle that has gone, from what was told before. Calls and Told have the words.
 -- Assumes nothing.
-use mathlib.Core.Bool.{true}
 use mathlib.Core.List.{List, [], _∷_, _++_, append-assoc}
-use mathlib.Core.Path.{_≡_, sym, ap, _∙_, subst}
+use mathlib.Core.Path.{_≡_, sym, ap, _∙_}
 use Prim.Native.Nat.{ℕ}
 use Rattle.meaning.specs.Cursor.{Command}
 use lib.ListN.{length}

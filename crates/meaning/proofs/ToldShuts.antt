@@ -3,14 +3,14 @@ use mathlib.Core.Bool.{Bool, true, false, cond}
 use mathlib.Core.List.{List, [], _∷_, _++_, append-assoc}
 use mathlib.Core.Option.{Option, none, some}
 use mathlib.Core.Path.{_≡_, refl, sym, ap, _∙_, subst}
-use Prim.Native.Nat.{ℕ, _<_, _^_}
+use Prim.Native.Nat.{ℕ}
 use native.Mathlib.Omega.{arith}
 use lib.Dec.{eqb}
 use borrow.Author.Tests.{eqb-true, eqb-false, ne-eqb}
 use Rattle.meaning.specs.Layout.{within}
 use Rattle.meaning.specs.Pool.{Rec, Pool, recAt, read}
 use Rattle.meaning.specs.Change.{Mark}
-use Rattle.meaning.specs.Cursor.{Command, State, kind, treeOf}
+use Rattle.meaning.specs.Cursor.{Command, State, kind}
 use Rattle.meaning.specs.Command.{takeOut, takenOut, opOf, meant, refusal, answer, carriedOut, perform}
 use Rattle.meaning.specs.Doors.{run, begun}
 use Rattle.meaning.specs.Calls.{Point, stateAfter, shownSlot, shownStamp}
@@ -23,8 +23,7 @@ use Rattle.meaning.proofs.Doing.{performed, answer-shows, does-take, ro
 use Rattle.meaning.proofs.Facts.{test}
 use Rattle.meaning.proofs.Formed.{not-both}
 use Rattle.meaning.proofs.Good.{Journal, shut, begun as opened-at, GoodState, Parsed}
-use Rattle.meaning.proofs.Members.{Lives}
-use Rattle.meaning.proofs.Points.{Anything, parsed-parts, point-stored, point-good, point-parsed, point-on, state-on}
+use Rattle.meaning.proofs.Points.{Anything, parsed-parts, point-stored, point-good, point-parsed, state-on}
 use Rattle.meaning.proofs.Pools.{sound-pool}
 use Rattle.meaning.proofs.Seen.{finds}
 

@@ -1,38 +1,41 @@
 -- Demand 2, the places: the premises of the laws of Demand2Shapes always hold. A record that is removed, and one that the cursor stands at, stands in its
 -- tree, and the search for a key that is added ends at an empty place. Assumes nothing.
 use mathlib.Core.Bool.{true}
-use mathlib.Core.List.{_∷_, _++_}
+use mathlib.Core.List.{List, [], _∷_, _++_}
+use mathlib.Core.Logic.{_⊎_, inl, inr}
 use mathlib.Core.Option.{Option}
 use mathlib.Core.Path.{_≡_, refl, sym, ap, _∙_, subst}
 use Prim.Native.Nat.{ℕ, _+_, _≤_}
 use native.Mathlib.Decide.{decLe}
 use native.Mathlib.Omega.{arith}
 use lib.Dec.{eqb}
-use borrow.Author.Tests.{eqb-true, eqb-false}
+use borrow.Author.Tests.{eqb-true, eqb-false, eq-eqb}
 use Rattle.avl.specs.Tree.{Dir, left, right, pick, Tree, leaf, node, branch, list}
 use Rattle.avl.specs.Way.{Way, root, step, plug, before, after}
 use Rattle.avl.specs.Edit.{insert, insertHere, remove}
-use Rattle.avl.specs.Search.{Spot, entry}
-use Rattle.avl.specs.Order.{All, byKey}
+use Rattle.avl.specs.Search.{Spot, seek, entry}
+use Rattle.avl.specs.Order.{All, nil, more, first, byKey}
 use Rattle.avl.proofs.Answers.{Outcome, vacant, occupied, entry-outcome}
 use Rattle.avl.proofs.Keys.{same-key, keys, key-exact}
 use Rattle.avl.proofs.Sides.{node-branch}
-use Rattle.avl.proofs.Sorting.{all-back, all-head}
-use Rattle.meaning.specs.Layout.{bit, within, count}
+use Rattle.avl.proofs.Sorting.{all-back, all-head, all-map}
+use Rattle.meaning.specs.Layout.{bit, within, count, span}
 use Rattle.meaning.specs.Pool.{Pool, treeAt, keyAt}
 use Rattle.meaning.specs.Change.{byKeyIn, freeSlot}
-use Rattle.meaning.specs.Cursor.{Command, State, standing, treeOf}
+use Rattle.meaning.specs.Cursor.{Command, State, cursorTree, standing, treeOf}
 use Rattle.meaning.specs.Command.{meant, notAtRecord, among, adding, refusal, perform}
 use Rattle.meaning.specs.WellFormed.{WellFormed}
 use Rattle.meaning.specs.Meant.{removing}
 use Rattle.meaning.specs.Places.{Stands}
-use Rattle.meaning.proofs.Adding.{adding-ok}
+use Rattle.meaning.proofs.Adding.{kind-ok, AtEnd, end-ok, adding-ok}
+use Rattle.meaning.proofs.Among.{among-all}
 use Rattle.meaning.proofs.Cursors.{lives-is, lives-tree, standing-lives}
-use Rattle.meaning.proofs.Demand2Shapes.{inserted-shape, besideOps, beside-tree, beside-shape, removed-shape}
-use Rattle.meaning.proofs.Entries.{any-sorted}
+use Rattle.meaning.proofs.Demand2Shapes.{inserted-shape, besideOps, beside-ops, beside-tree, beside-shape, removed-shape}
+use Rattle.meaning.proofs.Entries.{any-live, any-sorted}
 use Rattle.meaning.proofs.Facts.{test, count-append}
 use Rattle.meaning.proofs.Good.{GoodState, Parsed, NewKey}
 use Rattle.meaning.proofs.Members.{Lives}
+use Rattle.meaning.proofs.Neighbours.{all-from}
 use Rattle.meaning.proofs.Seen.{finds}
 use Rattle.meaning.proofs.Tables.{passed}
 
@@ -106,7 +109,7 @@ module _ (w : Option Pool) (s : State) (c : Command) (g : GoodState w s) where
       let k = live-stands (s .pool) (g .pool) d (treeOf s c) x there in
       (k, beside-shape w s c parsed g d h z (k .near) (k .bal) (k .far) (k .way) (k .is))
 
-  -- Ops 16 to 19 that are not refused have a record that the cursor stands at; on an empty tree ops 24 and 25 have none, and `inserted-there` is their law.
+  -- Ops 16 to 19 that are not refused have a record that the cursor stands at; on an empty tree ops 24 and 25 have none, and `beside-none` is their law.
   pub stands-at : within 16 19 (c .op) ≡ true → refusal s c ≡ 0 → standing (s .cursor) ≡ 0 → ⊥
   unfolding notAtRecord among
   stands-at h z = eqb-false (standing (s .cursor)) 0 (passed s c z .at-record (rw h))
@@ -119,3 +122,46 @@ module _ (w : Option Pool) (s : State) (c : Command) (g : GoodState w s) where
   removed-there h z =
       let k = live-stands (s .pool) (g .pool) left (treeOf s c) (meant s c) (finds w s c g h z .0) in
       (k, removed-shape w s c g h z (k .near) (k .bal) (k .far) (k .way) (k .is))
+
+-- ---- ops 24 and 25 on an empty tree
+
+-- an op that puts a record in beside another is one of 16 to 19, or the one of an end of the tree
+beside-or-end : (d : Dir) (n : ℕ) → among (besideOps d) n ≡ true → (within 16 19 n ≡ true) ⊎ (n ≡ pick d 25 24)
+unfolding within span
+beside-or-end left n h =
+    among-all (λ m. (within 16 19 m ≡ true) ⊎ (m ≡ 25)) (besideOps left) n h (more (inl refl) (more (inl refl) (more (inr refl) nil)))
+beside-or-end right n h =
+    among-all (λ m. (within 16 19 m ≡ true) ⊎ (m ≡ 24)) (besideOps right) n h (more (inl refl) (more (inl refl) (more (inr refl) nil)))
+
+-- a tree of slots whose first is none is empty
+first-none : (e : Dir) (u : Tree) → All (λ y. y ≡ 0 → ⊥) (list e u) → first (list e u) ≡ 0 → u ≡ leaf
+unfolding list
+first-none e leaf a z = refl
+first-none e (node l s b r) a z = absurd (go (pick e (list e l) (list e r)) (pick e (list e r) (list e l)) a z)
+  where
+    go : (front rest : List ℕ) → All (λ y. y ≡ 0 → ⊥) (front ++ (s ∷ rest)) → first (front ++ (s ∷ rest)) ≡ 0 → ⊥
+    go [] rest (more h hs) i = h i
+    go (y ∷ front) rest (more h hs) i = h i
+
+module _ (w : Option Pool) (s : State) (c : Command) (g : GoodState w s) where
+  at-end : (d : Dir) → c .op ≡ pick d 25 24 → refusal s c ≡ 0 → AtEnd d (s .pool) (s .cursor)
+  at-end left e z = end-ok left (s .pool) (s .cursor) (g .cursor) (kind-ok 3 s c (passed s c z .at-first (eq-eqb 25 (c .op) (sym e))))
+  at-end right e z = end-ok right (s .pool) (s .cursor) (g .cursor) (kind-ok 4 s c (passed s c z .at-last (eq-eqb 24 (c .op) (sym e))))
+
+  -- Where such an op is not refused though the cursor stands at no record, its tree is empty, and after it the tree is what `_insert` gives at the root: the
+  -- new record alone.
+  pub beside-none : Parsed c → (d : Dir) → among (besideOps d) (c .op) ≡ true → refusal s c ≡ 0 → standing (s .cursor) ≡ 0
+      → (treeAt (s .pool) (treeOf s c) ≡ leaf) × (treeAt (perform s c .state .pool) (treeOf s c) ≡ insert root (freeSlot (s .pool)))
+  unfolding entry seek
+  beside-none parsed d h z n = go (beside-or-end d (c .op) h)
+    where
+      go : (within 16 19 (c .op) ≡ true) ⊎ (c .op ≡ pick d 25 24)
+          → (treeAt (s .pool) (treeOf s c) ≡ leaf) × (treeAt (perform s c .state .pool) (treeOf s c) ≡ insert root (freeSlot (s .pool)))
+      go (inl i) = absurd (stands-at w s c g i z n)
+      go (inr i) =
+          let p = s .pool in
+          let t = cursorTree (s .cursor) in
+          let slots : All (λ y. y ≡ 0 → ⊥) (list d (treeAt p t)) = all-map (λ y l k. omega (arith, l .low, k)) (all-from d (treeAt p t) (any-live p (g .pool) t)) in
+          let empty : treeAt p (treeOf s c) ≡ leaf =
+          ap (treeAt p) (beside-tree s c d h z) ∙ first-none d (treeAt p t) slots (sym (at-end d i z .is-first) ∙ n) in
+          (empty, inserted-shape w s c parsed g (beside-ops d (c .op) h .0) z root (ap (entry (byKeyIn p (c .key))) empty))

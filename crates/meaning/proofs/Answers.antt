@@ -110,7 +110,7 @@ refused-told {pool = pool} {before = before} {c = c} p n =
 -- ---- a handle that has gone
 
 -- the pool keeps as many trees and slots as its header counts
-trees-kept : (pool : List ℕ) (before : List Command) → length (stateAfter pool before .pool .trees) ≡ nTrees pool
+pub trees-kept : (pool : List ℕ) (before : List Command) → length (stateAfter pool before .pool .trees) ≡ nTrees pool
 unfolding stateAfter begun read entries
 trees-kept b before = run-sizes (begun (read b)) before .trees ∙ length-map (entries b) _ ∙ length-rows (nTrees b) 8 _
 

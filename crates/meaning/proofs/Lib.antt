@@ -76,3 +76,4 @@ pub mod LiveHandles
 pub mod Demand2Places
 pub mod StoredShapes
 pub mod ToldCase
+pub mod ToldPlans

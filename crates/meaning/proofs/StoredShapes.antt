@@ -1,7 +1,7 @@
 -- From a command of a batch to the bytes: the links and balances that the records of the final pool store are those of the tree that the Rust's edit gives.
 -- Assumes nothing.
 use mathlib.Core.Bool.{true}
-use mathlib.Core.List.{List, [], _∷_, _++_}
+use mathlib.Core.List.{List, [], _∷_, _++_, append-nil}
 use mathlib.Core.Option.{Option}
 use mathlib.Core.Path.{_≡_, sym, ap, _∙_, subst}
 use Prim.Native.Nat.{ℕ, _≤_}
@@ -18,13 +18,13 @@ use Rattle.meaning.specs.Sound.{sound}
 use Rattle.meaning.specs.Change.{byKeyIn, freeSlot, Mark, rolledBack}
 use Rattle.meaning.specs.Cursor.{Command, State, standing, treeOf}
 use Rattle.meaning.specs.Command.{meant, among, adding, perform}
-use Rattle.meaning.specs.Doors.{run, ended, batch}
+use Rattle.meaning.specs.Doors.{run, begun, ended, batch}
 use Rattle.meaning.specs.Meant.{entriesOf, removing}
 use Rattle.meaning.specs.Calls.{Point, stateAfter}
 use Rattle.meaning.specs.Told.{codeAt, ToldShut}
 use Rattle.meaning.specs.Places.{Stands, StoredTree}
 use Rattle.meaning.proofs.Adding.{adding-ok}
-use Rattle.meaning.proofs.Answers.{code-told}
+use Rattle.meaning.proofs.Answers.{code-told, trees-kept}
 use Rattle.meaning.proofs.Batches.{AllParsed, and-then, ended-good}
 use Rattle.meaning.proofs.Cursors.{lives-tree}
 use Rattle.meaning.proofs.Demand2.{count-of-tree, links-of-record, root-of-tree}
@@ -37,7 +37,7 @@ use Rattle.meaning.proofs.Members.{lives}
 use Rattle.meaning.proofs.Points.{batch-stored, point-good, point-parsed, point-leaves, point-on, state-on}
 use Rattle.meaning.proofs.Pools.{sound-pool, good-state}
 use Rattle.meaning.proofs.Seen.{finds}
-use Rattle.meaning.proofs.Sizes.{command-sizes}
+use Rattle.meaning.proofs.Sizes.{batch-sizes}
 use Rattle.meaning.proofs.ToldShuts.{shut-at}
 
 -- Every tree of a sound pool is stored as the tree that its bytes are read as.
@@ -64,6 +64,23 @@ stored-tree b a s t low high =
           };
     }
 
+-- The bytes of the pool that a batch leaves store every tree as it is after the batch's last command, and after the rollback of a mark that is still open.
+pub final-trees : {pool request answers : List ℕ} {before rest : List Command} → Point pool request answers before rest → (t : ℕ) → 1 ≤ t → t ≤ nTrees pool
+    → StoredTree (batch pool request answers .pool) t (treeAt (ended (stateAfter pool (before ++ rest))) t)
+unfolding read entries stateAfter begun
+final-trees {pool} {request} {answers} {before} {rest} p t low high =
+    let u = stateAfter pool (before ++ rest) in
+    let b = batch pool request answers .pool in
+    let h = batch-stored p in
+    let q = point-good (point-on {before = before} {rest = []} rest (subst (Point pool request answers before) (sym (append-nil rest)) p)) in
+    let same : read b ≡ ended u = ap read (point-leaves p) ∙ good-state (ended u) (ended-good (q .0) u (q .1)) .2 in
+    let here : length (read b .trees) ≡ nTrees b = length-map (entries b) _ ∙ length-rows (nTrees b) 8 _ in
+    let there : length (read pool .trees) ≡ nTrees pool = length-map (entries pool) _ ∙ length-rows (nTrees pool) 8 _ in
+    let kept : length (ended u .trees) ≡ length (read pool .trees) = batch-sizes (begun (read pool)) (before ++ rest) .trees in
+    let both : length (read b .trees) ≡ length (ended u .trees) = ap (λ (v : Pool). length (v .trees)) same in
+    subst (λ (v : Pool). StoredTree b t (treeAt v t)) same
+    (stored-tree b (h .are-bytes) (h .is-sound) t low (omega (arith, high, here, there, kept, both)))
+
 -- ---- the last command of a batch
 
 first-parsed : {c : Command} {cs : List Command} → AllParsed (c ∷ cs) → Parsed c
@@ -71,30 +88,20 @@ first-parsed (and-then h hs) = h
 
 module _ {pool request answers : List ℕ} {before : List Command} {c : Command} (p : Point pool request answers before (c ∷ []))
     (closed : ToldShut pool request answers (before ++ (c ∷ []))) where
-  -- The pool that the batch leaves is read as the pool after its last command, if no mark is open then.
-  final-pool : read (batch pool request answers .pool) ≡ perform (stateAfter pool before) c .state .pool
+  -- Where no mark is open after the last command, the batch's end leaves the pool.
+  final-pool : ended (stateAfter pool (before ++ (c ∷ []))) ≡ perform (stateAfter pool before) c .state .pool
   unfolding run ended rolledBack
   final-pool =
       let u = stateAfter pool (before ++ (c ∷ [])) in
-      let q = point-on {rest = []} (c ∷ []) p in
-      let g = point-good q in
-      let same : ended u ≡ u .pool = ap (λ (m : Option Mark). rolledBack m (u .pool)) (shut-at q closed) in
-      ap read (point-leaves p) ∙ good-state (ended u) (ended-good (g .0) u (g .1)) .2 ∙ same
+      ap (λ (m : Option Mark). rolledBack m (u .pool)) (shut-at (point-on {rest = []} (c ∷ []) p) closed)
       ∙ ap (λ (t : State). t .pool) (state-on pool before (c ∷ []))
 
-  -- Its bytes store every tree as it is after the last command.
+  -- So the bytes store every tree as the last command leaves it.
   pub final-tree : (t : ℕ) → 1 ≤ t → t ≤ length (stateAfter pool before .pool .trees)
       → StoredTree (batch pool request answers .pool) t (treeAt (perform (stateAfter pool before) c .state .pool) t)
-  unfolding read entries
   final-tree t low high =
-      let b = batch pool request answers .pool in
-      let h = batch-stored p in
-      let trees : length (read b .trees) ≡ nTrees b = length-map (entries b) _ ∙ length-rows (nTrees b) 8 _ in
-      let same : length (read b .trees) ≡ length (perform (stateAfter pool before) c .state .pool .trees) =
-      ap (λ (v : Pool). length (v .trees)) final-pool in
-      let kept = command-sizes (stateAfter pool before) c .trees in
-      subst (λ (v : Pool). StoredTree b t (treeAt v t)) final-pool
-      (stored-tree b (h .are-bytes) (h .is-sound) t low (omega (arith, high, trees, same, kept)))
+      subst (λ (v : Pool). StoredTree (batch pool request answers .pool) t (treeAt v t)) final-pool
+      (final-trees p t low (omega (arith, high, trees-kept pool before)))
 
   -- The last command of a batch adds a record, answered with 0, and no mark is open after it. The search for its key ends at an empty place of its tree, and
   -- the bytes of the pool that the batch leaves store the tree that `_insert` gives there.

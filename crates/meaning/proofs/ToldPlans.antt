@@ -1,17 +1,14 @@
 -- An abandoned plan at the door name: every handle has the name that it had, or none if it had none. Assumes nothing.
-use mathlib.Core.Bool.{true}
 use mathlib.Core.List.{List, [], _∷_}
 use mathlib.Core.Option.{some}
-use mathlib.Core.Path.{_≡_, refl, sym, ap, _∙_, subst}
+use mathlib.Core.Path.{_≡_, refl, sym, ap, _∙_}
 use Prim.Native.Nat.{ℕ}
 use native.Mathlib.Omega.{arith}
-use Rattle.fields.specs.Number.{Bytes}
 use Rattle.fields.specs.Part.{part}
-use Rattle.meaning.specs.Pool.{Rec, recAt, read}
-use Rattle.meaning.specs.Sound.{sound}
+use Rattle.meaning.specs.Pool.{recAt, read}
 use Rattle.meaning.specs.Cursor.{Command}
 use Rattle.meaning.specs.Doors.{batch, name}
-use Rattle.meaning.specs.Calls.{Point, SameContents}
+use Rattle.meaning.specs.Calls.{SameContents}
 use Rattle.meaning.specs.Told.{ToldMark}
 use Rattle.meaning.proofs.Points.{Stored, Anything, point-stored, batch-stored}
 use Rattle.meaning.proofs.StaleHandles.{name-accepted, live-named}

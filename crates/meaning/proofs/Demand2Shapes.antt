@@ -51,7 +51,7 @@ abbrev pub besideOps : Dir → List (ℕ × ℕ)
 besideOps d = pick d ((16, 16) ∷ (18, 18) ∷ (25, 25) ∷ []) ((17, 17) ∷ (19, 19) ∷ (24, 24) ∷ [])
 
 -- they add, and use the cursor's tree
-beside-ops : (d : Dir) (n : ℕ) → among (besideOps d) n ≡ true → (adding n ≡ true) × (within 1 11 n ≡ false)
+pub beside-ops : (d : Dir) (n : ℕ) → among (besideOps d) n ≡ true → (adding n ≡ true) × (within 1 11 n ≡ false)
 unfolding among adding within span
 beside-ops left n h =
     among-all (λ n. (adding n ≡ true) × (within 1 11 n ≡ false)) (besideOps left) n h (more (refl, refl) (more (refl, refl) (more (refl, refl) nil)))
@@ -64,7 +64,7 @@ module _ (s : State) (c : Command) where
   beside-order left h z = passed s c z .key-before h
   beside-order right h z = passed s c z .key-behind h
 
-  beside-tree : (d : Dir) → among (besideOps d) (c .op) ≡ true → refusal s c ≡ 0 → treeOf s c ≡ cursorTree (s .cursor)
+  pub beside-tree : (d : Dir) → among (besideOps d) (c .op) ≡ true → refusal s c ≡ 0 → treeOf s c ≡ cursorTree (s .cursor)
   beside-tree d h z = tree-is (passed s c z) ∙ ap (λ (b : Bool). cond b (c .tree) (cursorTree (s .cursor))) (beside-ops d (c .op) h .1)
 
 -- the key lies short of whatever follows next

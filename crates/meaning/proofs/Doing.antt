@@ -75,7 +75,7 @@ adds-shown s c w a h z =
 
 -- ---- records removed
 
-does-take : (s : State) (c : Command) → removing (c .op) ≡ true → refusal s c ≡ 0
+pub does-take : (s : State) (c : Command) → removing (c .op) ≡ true → refusal s c ≡ 0
     → opOf c .does s c (opOf c .means s c) ≡ takeOut s c (opOf c .means s c)
 unfolding opOf ops opIn op_means_does_then_ among within every count span
 does-take s c h z =

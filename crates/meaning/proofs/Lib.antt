@@ -37,6 +37,7 @@ pub mod Entries
 pub mod Among
 pub mod Sights
 pub mod Determined
+pub mod DoorsDetermined
 pub mod Chains
 pub mod Demand1Doors
 pub mod Demand1
@@ -67,3 +68,12 @@ pub mod Given
 pub mod ShownHandles
 pub mod KeptHandles
 pub mod RollbackCase
+pub mod Answers
+pub mod ToldHandles
+pub mod ToldShuts
+pub mod ToldGone
+pub mod LiveHandles
+pub mod Demand2Places
+pub mod StoredShapes
+pub mod ToldCase
+pub mod ToldPlans

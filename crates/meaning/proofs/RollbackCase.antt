@@ -42,7 +42,7 @@ answers = replicate 120 0
 unfoldable nth : ℕ → Command
 nth i = getD (commands asked) i (removal 0 0 0)
 
-are-bytes : (b : List ℕ) → every (λ n. ltb n 256) b ≡ true → Bytes b
+pub are-bytes : (b : List ℕ) → every (λ n. ltb n 256) b ≡ true → Bytes b
 are-bytes b h = record { below = λ j. go j (decLt j (length b)) }
   where
     go : (j : ℕ) → Dec (j < length b) → getD b j 0 < 256

@@ -39,7 +39,7 @@ unfolding isStale
 stale-only {p} {x} {g} h = record { only = λ r e s. never (sym (ap (isStale g) e) ∙ h) (ap not (eq-eqb (r .stamp) g s)) }
 
 -- If it holds none, the test says so.
-only-stale : {p : Pool} {x g : ℕ} → Only x g Nothing p → isStale g (recAt p x) ≡ true
+pub only-stale : {p : Pool} {x g : ℕ} → Only x g Nothing p → isStale g (recAt p x) ≡ true
 unfolding isStale
 only-stale {p} {x} {g} h = go (recAt p x) refl
   where
@@ -68,7 +68,7 @@ accepted-by {p} {t} {x} {g} h k = go (recAt p x) refl h k
 -- ---- ops 4 to 6
 
 -- what holds of 4, 5 and 6 holds of a number from 4 to 6
-four-to-six : (P : ℕ → Type 0) → P 4 → P 5 → P 6 → (n : ℕ) → within 4 6 n ≡ true → P n
+pub four-to-six : (P : ℕ → Type 0) → P 4 → P 5 → P 6 → (n : ℕ) → within 4 6 n ≡ true → P n
 four-to-six P a b c n h =
     let l = within-is 4 6 n h in
     test (eqb n 4) (λ t. subst P (sym (eqb-true n 4 t)) a)

@@ -9,3 +9,5 @@ pub mod Listing
 pub mod WellFormed
 pub mod Meant
 pub mod Calls
+pub mod Told
+pub mod Places

@@ -19,7 +19,7 @@ use Rattle.meaning.specs.Change.{byKeyIn}
 use Rattle.meaning.specs.Cursor.{beyond}
 use Rattle.meaning.specs.Command.{past}
 use Rattle.meaning.specs.WellFormed.{WellFormed}
-use Rattle.meaning.proofs.Good.{NewKey}
+use Rattle.meaning.specs.States.{NewKey}
 use Rattle.meaning.proofs.Cursors.{all-slots, tree-counts, tree-sorted}
 use Rattle.meaning.proofs.Members.{Lives}
 use Rattle.meaning.proofs.Neighbours.{all-left, Apart, says-apart, first-says, between-apart}

@@ -16,10 +16,11 @@ use Rattle.meaning.specs.Cursor.{Command, Cursor, nowhere, occupied, vac
 use Rattle.meaning.specs.Command.{show, takeOut, addNew, op_means_does_then_, ops, opIn, opOf, meant, isStale, stale, isElsewhere, otherTree, notAtRecord, past, noneThere, among, refusal, refused, carriedOut, perform}
 use Rattle.meaning.specs.WellFormed.{WellFormed}
 use Rattle.meaning.specs.Meant.{Entry, entriesOf, front, facing, keyBeyond, slotOf, onSide, ofKey, ofSlot, besideSlot, endOf, ofCursor, besideCursor, sights, sightIn, seen, removing}
+use Rattle.meaning.specs.States.{CursorOk, GoodState}
+use Rattle.meaning.specs.Demands.{looking, seeing}
 use Rattle.meaning.proofs.Adding.{not-end, end-ok}
 use Rattle.meaning.proofs.Among.{among-all}
 use Rattle.meaning.proofs.Entries.{liveEntry, entry-zero, entry-live, entry-slot, entry-key}
-use Rattle.meaning.proofs.Good.{CursorOk, GoodState}
 use Rattle.meaning.proofs.Members.{Lives, slot-in}
 use Rattle.meaning.proofs.Sights.{Sees, end-alone, sees-key, sees-end, sees-beside, sees-slot, sees-standing, sees-next}
 use Rattle.meaning.proofs.Tables.{never, Passed, passed, meant-is}
@@ -75,10 +76,6 @@ end-seen e p good k fits h =
     next (lastEntry t x) h = refl
 
 -- ---- what each op sees
-
--- the ops that see a record, but for op 4, whose slot may be anything
-abbrev pub seeing : ℕ → Bool
-seeing n = among ((2, 3) ∷ (5, 8) ∷ (10, 15) ∷ (21, 23) ∷ []) n
 
 -- the tree that op n works on
 abbrev treeFor : ℕ → State → Command → ℕ
@@ -152,10 +149,6 @@ module _ (w : Option Pool) (s : State) (c : Command) (g : GoodState w s) where
   finds h z = among-all (FindsAt s c) ((3, 4) ∷ (21, 23) ∷ []) (c .op) h finds-all (passed s c z)
 
 -- ---- what each op does
-
--- the ops that only look
-abbrev pub looking : ℕ → Bool
-looking n = among ((2, 2) ∷ (5, 8) ∷ (10, 15) ∷ []) n
 
 -- They are among those that see one.
 pub looking-sees : (n : ℕ) → looking n ≡ true → seeing n ≡ true

@@ -16,8 +16,8 @@ use Rattle.meaning.specs.Pool.{Pool, treeAt, keyAt}
 use Rattle.meaning.specs.Cursor.{Command, Cursor, nowhere, occupied, vacant, firstEntry, lastEntry, State, kind, cursorTree, standing, beyond, nextOf, nextOfCursor}
 use Rattle.meaning.specs.Command.{past, notBetween}
 use Rattle.meaning.specs.WellFormed.{WellFormed}
+use Rattle.meaning.specs.States.{CursorOk}
 use Rattle.meaning.proofs.Facts.{test}
-use Rattle.meaning.proofs.Good.{CursorOk}
 use Rattle.meaning.proofs.Members.{Lives}
 use Rattle.meaning.proofs.Neighbours.{counted, all-following, following-after}
 use Rattle.meaning.proofs.Cursors.{all-live, all-slots, tree-counts, tree-sorted, standing-lives, next-lives}

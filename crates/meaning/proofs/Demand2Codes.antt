@@ -44,8 +44,7 @@ and-true false = refl
 -- there is nothing to lie past where there is no record
 none-past : (d : Dir) (p : Pool) (k : ℕ) → past p d 0 k ≡ true
 unfolding past
-none-past left p k = refl
-none-past right p k = refl
+none-past d p k = refl
 
 four : (a b d e : Bool) (n : ℕ) → (cond a 11 (cond b 14 (cond d 15 (cond e 16 n))) ≡ 0)
     exactly-if ((a ≡ false) × ((b ≡ false) × (d ≡ false) × (e ≡ false)) × (n ≡ 0))

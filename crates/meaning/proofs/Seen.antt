@@ -13,9 +13,9 @@ use Rattle.avl.proofs.Sides.{flip-flip}
 use Rattle.meaning.specs.Layout.{within, span, following}
 use Rattle.meaning.specs.Pool.{Rec, Pool, recAt, treeAt, keyAt}
 use Rattle.meaning.specs.Cursor.{Command, Cursor, nowhere, occupied, vacant, firstEntry, lastEntry, State, kind, beyond, nextOf, cursorTree, standing, treeOf, withKey, ofHandle, atCursor, firstFrom, nextOfHandle, nextOfCursor}
-use Rattle.meaning.specs.Command.{show, takeOut, addNew, op_means_does_then_, ops, opIn, opOf, meant, isStale, stale, isElsewhere, otherTree, notAtRecord, past, noneThere, among, refusal, refused, carriedOut, perform}
+use Rattle.meaning.specs.Command.{show, takeOut, addNew, op_means_does_then_, ops, opIn, opOf, meant, isStale, stale, isElsewhere, otherTree, notAtRecord, keyBeyond, past, noneThere, among, refusal, refused, carriedOut, perform}
 use Rattle.meaning.specs.WellFormed.{WellFormed}
-use Rattle.meaning.specs.Meant.{Entry, entriesOf, front, facing, keyBeyond, slotOf, onSide, ofKey, ofSlot, besideSlot, endOf, ofCursor, besideCursor, sights, sightIn, seen, removing}
+use Rattle.meaning.specs.Meant.{Entry, entriesOf, front, facing, slotOf, onSide, ofKey, ofSlot, besideSlot, endOf, ofCursor, besideCursor, sights, sightIn, seen, removing}
 use Rattle.meaning.specs.States.{CursorOk, GoodState}
 use Rattle.meaning.specs.Demands.{looking, seeing}
 use Rattle.meaning.proofs.Adding.{not-end, end-ok}
@@ -42,19 +42,11 @@ slot-seen {p} (suc x) s =
 
 -- A key lies past a slot exactly if it lies on that side of its entry.
 pub past-seen : {p : Pool} {t : ℕ} (d : Dir) (x k : ℕ) {e : Option Entry} → Sees p t x e → past p d x k ≡ onSide d k e
-unfolding past onSide keyBeyond
-past-seen {p} d zero k s = zero-past d ∙ ap (onSide d k) (sym (entry-zero p) ∙ s .is)
-  where
-    zero-past : (d : Dir) → past p d 0 k ≡ true
-    zero-past left = refl
-    zero-past right = refl
+unfolding past onSide
+past-seen {p} d zero k s = ap (onSide d k) (sym (entry-zero p) ∙ s .is)
 past-seen {p} d (suc x) k s =
     let h = s .there (λ e. omega arith) in
-    by-key d ∙ ap (λ (j : ℕ). keyBeyond d j k) (sym (entry-key p (suc x))) ∙ ap (onSide d k) (sym (entry-live p h) ∙ s .is)
-  where
-    by-key : (d : Dir) → past p d (suc x) k ≡ keyBeyond d (keyAt p (suc x)) k
-    by-key left = refl
-    by-key right = refl
+    ap (λ (j : ℕ). keyBeyond d j k) (sym (entry-key p (suc x))) ∙ ap (onSide d k) (sym (entry-live p h) ∙ s .is)
 
 -- At an end of its tree the cursor has nothing beside it on that side, and stands at the first entry from there.
 pub end-seen : (e : Dir) (p : Pool) → WellFormed p → (k : Cursor) → CursorOk p k → kind k ≡ pick e 3 4

@@ -7,7 +7,7 @@ use Prim.Native.Nat.{ℕ, suc, _+_}
 use lib.Dec.{eqb}
 use lib.ListN.{take}
 use Rattle.avl.specs.Tree.{left, right}
-use Rattle.meaning.specs.Layout.{pack, within, every}
+use Rattle.meaning.specs.Layout.{answerBare, within, every}
 use Rattle.meaning.specs.Pool.{bytes}
 use Rattle.meaning.specs.Cursor.{Command, State, kind}
 use Rattle.meaning.specs.Command.{Test, always, badTree, noCursor, notAtRecord, notKind, marked, unmarked, badName, badSlot, stale, otherTree, present, notBetween, notTheEntrys, noneThere, noSlot, noText, noStamp, among, Refusal, refusals, afterRefusal, Performed}
@@ -144,4 +144,4 @@ pub record Left (e : ℕ) (s : State) (c : Command) (d : Performed) : Type 0 whe
   pub pool-bytes : bytes (d .state .pool) ≡ bytes (s .pool)
   pub mark : d .state .mark ≡ s .mark
   pub cursor : d .state .cursor ≡ afterRefusal (c .op) e (s .cursor)
-  pub answer : d .answer ≡ pack ((1, e) ∷ (1, kind (d .state .cursor)) ∷ (22, 0) ∷ [])
+  pub answer : d .answer ≡ answerBare e (kind (d .state .cursor))

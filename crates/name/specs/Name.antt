@@ -1,3 +1,4 @@
+-- A model: what the code computes. No door's promise cites it, and it need not be believed.
 -- When a handle is good, by the fields of its record. Assumes nothing.
 use mathlib.Core.Bool.{Bool, not, _&&_}
 use mathlib.Core.List.{List, []}

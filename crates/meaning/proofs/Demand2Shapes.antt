@@ -28,11 +28,12 @@ use Rattle.meaning.specs.Demands.{besideOps}
 use Rattle.meaning.proofs.Adding.{order-ok}
 use Rattle.meaning.proofs.Among.{among-all}
 use Rattle.meaning.proofs.Cursors.{standing-next}
-use Rattle.meaning.proofs.Demand2Changes.{adds, removed-it}
+use Rattle.meaning.proofs.Demand2Changes.{adds}
 use Rattle.meaning.proofs.Entries.{entry-key, any-live, any-sorted}
 use Rattle.meaning.proofs.Members.{Lives}
 use Rattle.meaning.proofs.Neighbours.{all-from}
 use Rattle.meaning.proofs.NewKeys.{past-says}
+use Rattle.meaning.proofs.Removals.{removed-it}
 use Rattle.meaning.proofs.Seen.{finds, removing-takes}
 use Rattle.meaning.proofs.Sights.{following-at, before-others}
 use Rattle.meaning.proofs.Tables.{passed, tree-is}

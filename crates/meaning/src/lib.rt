@@ -16,7 +16,7 @@
 //     States      the states that a batch goes through, and a command as bytes give it
 //     Refused     the words of demand 1: which refusal is given, the tests of each op in their order
 //     Demands     the words of demand 2: looks, additions and removals over the lists
-//     Calls       the words of demand 3: door calls on one pool, points of a batch, and what is said of a handle from there on
+//     Calls       the words of demand 3: door calls, points of a batch, what is said of a handle from there on
 //
 // The theorems for the demands are proofs/Demand*.antt and proofs/KeptHandles.antt; docs/AUDIT.md leads to
 // them from the auditor's two questions.

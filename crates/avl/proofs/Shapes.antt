@@ -1,4 +1,4 @@
--- Shapes as document 01 writes them, and its cases P1 to P6 at the level of trees, as one table and one claim. Assumes nothing.
+-- Shapes as docs/REFERENCE.md writes them, and its cases P1 to P6 at the level of trees, as one table and one claim. Assumes nothing.
 use mathlib.Core.List.{List, [], _∷_, _++_}
 use mathlib.Core.Path.{_≡_, refl}
 use Prim.Native.Nat.{ℕ}

@@ -19,8 +19,8 @@ use Rattle.meaning.specs.Change.{freeSlot}
 use Rattle.meaning.specs.Cursor.{Command}
 use Rattle.meaning.specs.Doors.{nCommands, namesLength, batchOk, command, commands, run, begun, ended, batchRefusal, Outcome, carriedOut, batch}
 use Rattle.meaning.specs.WellFormed.{WellFormed}
+use Rattle.meaning.specs.States.{Parsed}
 use Rattle.meaning.proofs.Facts.{facts}
-use Rattle.meaning.proofs.Good.{Parsed}
 use Rattle.meaning.proofs.Batches.{AllParsed, and-then, commands-parsed, begun-good, run-good, ended-good}
 use Rattle.meaning.proofs.Packed.{written-header}
 use Rattle.meaning.proofs.Pools.{sound-pool}

@@ -12,9 +12,9 @@ use Rattle.meaning.specs.Pool.{Pool}
 use Rattle.meaning.specs.Change.{Mark, rollback}
 use Rattle.meaning.specs.Cursor.{State, nowhere, kind, cursorTree}
 use Rattle.meaning.specs.Command.{answer, Performed, perform}
+use Rattle.meaning.specs.States.{GoodState, Parsed}
 use Rattle.meaning.proofs.Clauses.{within-is}
 use Rattle.meaning.proofs.Facts.{test}
-use Rattle.meaning.proofs.Good.{GoodState, Parsed}
 use Rattle.slots.specs.Change.{Image}
 use Rattle.slots.specs.Image.{bodyOf, headOf, shownOf}
 use Rattle.journal.specs.Journal.{rollBackN}

@@ -16,8 +16,8 @@ use Rattle.meaning.specs.Change.{Mark, rolledBack}
 use Rattle.meaning.specs.Cursor.{Command, State, kind}
 use Rattle.meaning.specs.Command.{answer, Performed, perform}
 use Rattle.meaning.specs.Doors.{run, ended}
+use Rattle.meaning.specs.States.{GoodState, Parsed}
 use Rattle.meaning.proofs.Commands.{markedAt, perform-good}
-use Rattle.meaning.proofs.Good.{GoodState, Parsed}
 use Rattle.slots.specs.Answer.{putAnswerN}
 use Rattle.slots.specs.Change.{Image}
 use Rattle.slots.specs.Image.{bodyOf, headOf, shownOf}

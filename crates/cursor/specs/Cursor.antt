@@ -1,3 +1,4 @@
+-- A model: what the code computes. No door's promise cites it, and it need not be believed.
 -- What the cases of the code's cursor stand for, the record and the place beside it by the links, and the next cursor. The cursor's cases are those
 -- of `meaning`. Assumes nothing.
 use mathlib.Core.List.{List}

@@ -1,3 +1,4 @@
+-- A model: what the code computes. No door's promise cites it, and it need not be believed.
 -- A command as it stands in a batch, and the tests that commands share, on the body and the head's numbers. Assumes nothing.
 use mathlib.Core.Bool.{Bool, true, cond, not, _&&_}
 use mathlib.Core.List.{List}

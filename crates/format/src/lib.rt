@@ -1,4 +1,4 @@
-// Format: the numbers of a pool, a batch and its answers by name, as the requirements give them, and rows of
+// Format: the numbers of a pool, a batch and its answers by name, as docs/REFERENCE.md gives them, and rows of
 // tests in one expression (test.rt). Offsets and sizes are in bytes; an offset counts from the start of the
 // part that it is in.
 pub mod test;

@@ -1,4 +1,4 @@
-// A row of tests as one expression: each test with what follows it, in the order of the requirements.
+// A row of tests as one expression: each test with what follows it, in the order of docs/REFERENCE.md.
 ghost use mathlib.Core.Path.{_≡_};
 ghost use mathlib.Core.Bool.{_&&_, cond};
 ghost use lib.Dec.{leb};

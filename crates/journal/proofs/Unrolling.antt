@@ -21,11 +21,11 @@ use Rattle.meaning.specs.Pool.{Rec, Pool, recAt, treeAt, keyAt, liveCount}
 use Rattle.meaning.specs.Change.{withTrees, withText, withNext, byKeyIn, freeSlot, putRec, dropRec, Change, added, removed, Mark, undoAdd, undo, rollback}
 use Rattle.meaning.specs.Cursor.{State}
 use Rattle.meaning.specs.WellFormed.{WellFormed}
+use Rattle.meaning.specs.States.{Fits, Alike, Since, nothing, then-added, then-removed, Journal, begun, GoodState}
 use Rattle.meaning.proofs.Bytes.{bytes-append, bytes-zeros}
 use Rattle.meaning.proofs.Changes.{rec-moves, put-good, drop-good}
 use Rattle.meaning.proofs.Facts.{length-put}
 use Rattle.meaning.proofs.Formed.{formed, formed-as, room}
-use Rattle.meaning.proofs.Good.{Fits, Alike, Since, nothing, then-added, then-removed, Journal, begun, GoodState}
 use Rattle.meaning.proofs.Journals.{undone}
 use Rattle.meaning.proofs.Members.{slot-in}
 use Rattle.meaning.proofs.Undoing.{alike-same, alike-on, added-live, added-back, removed-room, removed-back, undo-keeps}

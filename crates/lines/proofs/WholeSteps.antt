@@ -16,7 +16,7 @@ use Rattle.fields.proofs.Parts.{length-splice}
 use Rattle.meaning.specs.Pool.{nTrees, liveCount, read}
 use Rattle.meaning.specs.Change.{freeSlot}
 use Rattle.meaning.specs.Sound.{sound}
-use Rattle.meaning.specs.Listing.{decimal, treeLines, firstLine, listing}
+use Rattle.meaning.specs.Listing.{decimal, treeLines, firstLine, listing, listed}
 use Rattle.meaning.proofs.Clauses.{clauses}
 use Rattle.meaning.proofs.Pools.{sound-pool}
 use Rattle.judge.specs.Rows.{unsound, judged}
@@ -27,7 +27,6 @@ use Rattle.slots.specs.declared.head.Head.{Head}
 use Rattle.slots.proofs.Opening.{body-read, load-read}
 use Rattle.lines.specs.Text.{wrote, field}
 use Rattle.lines.specs.Line.{firstN, treesN}
-use Rattle.lines.specs.Listed.{listed}
 use Rattle.lines.proofs.Writing.{first-fits, second-fits, both-wrote}
 use Rattle.lines.proofs.Printed.{first-printed, trees-printed}
 use Rattle.lines.proofs.Bounds.{text-short}

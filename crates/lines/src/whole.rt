@@ -1,6 +1,6 @@
 // The listing of a pool.
 ghost use mathlib.Core.Path.{_≡_};
-ghost use Rattle.lines.specs.Listed.{listed};
+ghost use Rattle.meaning.specs.Listing.{listed};
 use super::line::put_first;
 use super::line::put_trees;
 use super::text::put_field;

@@ -15,8 +15,9 @@ use Rattle.meaning.specs.Change.{withTrees, withText, withNext, byKeyIn,
 use Rattle.meaning.specs.Cursor.{Command, firstEntry, lastEntry, State, treeOf}
 use Rattle.meaning.specs.Command.{Done, show, takenOut, takeOut, addNew, silent, openMark, rollBack, commit, reset}
 use Rattle.meaning.specs.WellFormed.{WellFormed}
+use Rattle.meaning.specs.States.{Journal, shut, CursorOk, at-first, at-last, GoodState}
 use Rattle.meaning.proofs.Facts.{at-put-other}
-use Rattle.meaning.proofs.Good.{Addable, Journal, shut, CursorOk, at-first, at-last, GoodState}
+use Rattle.meaning.proofs.Good.{Addable}
 use Rattle.meaning.proofs.Changes.{put-list, free-slot, grown, add-fits, grown-good, drop-good, add-good, emptied-good}
 use Rattle.meaning.proofs.Formed.{formed, room, not-both, Edited, put-edited}
 use Rattle.meaning.proofs.Journals.{journal-opens, journal-adds, journal-removes, rolled-good}

@@ -17,8 +17,9 @@ use Rattle.meaning.specs.Change.{freeSlot}
 use Rattle.meaning.specs.Cursor.{Command, Cursor, nowhere, occupied, vacant, firstEntry, lastEntry, State, kind, cursorTree, standing, entryKey, treeOf, withKey, nextOf, nextOfCursor}
 use Rattle.meaning.specs.Command.{badTree, notAtRecord, notKind, badName, present, past, notBetween, isOther, notTheEntrys, noSlot, noText, noStamp, among, adding, refusal}
 use Rattle.meaning.specs.WellFormed.{WellFormed}
+use Rattle.meaning.specs.States.{NewKey, CursorOk, at-nowhere, at-occupied, at-vacant, at-first, at-last, GoodState, Parsed}
 use Rattle.meaning.proofs.Facts.{both}
-use Rattle.meaning.proofs.Good.{NewKey, Addable, CursorOk, at-nowhere, at-occupied, at-vacant, at-first, at-last, GoodState, Parsed}
+use Rattle.meaning.proofs.Good.{Addable}
 use Rattle.meaning.proofs.Members.{Lives}
 use Rattle.meaning.proofs.Clauses.{within-is}
 use Rattle.meaning.proofs.Cursors.{lives-tree, standing-lives, standing-next}

@@ -17,11 +17,11 @@ use Rattle.meaning.specs.Cursor.{Command, State}
 use Rattle.meaning.specs.Command.{perform}
 use Rattle.meaning.specs.Doors.{nCommands, command, commands, run, begun, ended}
 use Rattle.meaning.specs.WellFormed.{WellFormed}
+use Rattle.meaning.specs.States.{shut, at-nowhere, GoodState, Parsed}
 use Rattle.meaning.proofs.Bytes.{bytes-none}
 use Rattle.meaning.proofs.Facts.{both, bytes-drop, bytes-take}
 use Rattle.meaning.proofs.Clauses.{within-is}
 use Rattle.meaning.proofs.Sections.{get-bound}
-use Rattle.meaning.proofs.Good.{shut, at-nowhere, GoodState, Parsed}
 use Rattle.meaning.proofs.Journals.{rolled-good}
 use Rattle.meaning.proofs.Commands.{markedAt, perform-good}
 

@@ -15,8 +15,9 @@ use Rattle.meaning.specs.Layout.{at}
 use Rattle.meaning.specs.Pool.{Rec, Pool, recAt}
 use Rattle.meaning.specs.Change.{withTrees, withText, withNext, freeSlot, putRec, dropRec, newRec, addRec, emptied, Mark}
 use Rattle.meaning.specs.Cursor.{State}
+use Rattle.meaning.specs.States.{Journal, shut, begun, GoodState}
 use Rattle.meaning.proofs.Facts.{test, at-put-same, at-put-other}
-use Rattle.meaning.proofs.Good.{Addable, Restored, Journal, shut, begun, GoodState}
+use Rattle.meaning.proofs.Good.{Addable, Restored}
 use Rattle.meaning.proofs.Formed.{not-both}
 use Rattle.meaning.proofs.Members.{slot-in}
 use Rattle.meaning.proofs.Changes.{free-slot}

@@ -1,4 +1,4 @@
--- P1 to P10 of document 01, "Shapes to hold": one table, one claim; their pools are sound and read back to the same bytes. Assumes nothing.
+-- The cases P1 to P10 of docs/REFERENCE.md (10.6): one table, one claim; their pools are sound and read back to the same bytes. Assumes nothing.
 use mathlib.Core.Bool.{Bool, true}
 use mathlib.Core.List.{List, [], _∷_, _++_, map}
 use mathlib.Core.Path.{_≡_, refl}

@@ -8,25 +8,16 @@ use native.Mathlib.Omega.{arith}
 use lib.Dec.{leb, eqb}
 use lib.ListN.{length, take}
 use borrow.Author.Tests.{eqb-true, eq-eqb, le-leb, not-true}
-use Rattle.avl.specs.Tree.{left, right}
 use Rattle.avl.specs.Order.{All, nil, more}
 use Rattle.meaning.specs.Layout.{within, every, span}
 use Rattle.meaning.specs.Cursor.{Command, State}
-use Rattle.meaning.specs.Command.{Test, always, badTree, noCursor, notAtRecord, notKind, marked, unmarked, badName, badSlot, stale, otherTree, present, notBetween, notTheEntrys, noneThere, noSlot, noText, noStamp, among, unknown, adding, Refusal, refuse_at_if_, refusals, firstOf, refusal}
+use Rattle.meaning.specs.Command.{always, among, unknown, adding, Refusal, refuse_at_if_, refusals, firstOf, refusal}
+use Rattle.meaning.specs.Refused.{_exactly-if_, applies, noneOf, noneBefore, RefusedBy, firstMet, testsOf, testsIn}
 use Rattle.meaning.proofs.Clauses.{within-is}
-use Rattle.meaning.proofs.Determined.{_exactly-if_}
 use Rattle.meaning.proofs.Facts.{both, both-true, every-span}
 use Rattle.meaning.proofs.Tables.{never, rowIn, everyOp}
 
 -- ---- the first row that applies
-
--- a row applies at op o: the op is among those that it names, and its condition holds
-unfoldable pub applies : ℕ → State → Command → Refusal → Bool
-applies o s c r = r .ops o && r .given s c
-
--- none of these rows applies
-unfoldable pub noneOf : List Refusal → ℕ → State → Command → Bool
-noneOf rs o s c = every (λ r. not (applies o s c r)) rs
 
 -- row i applies and none before it does
 abbrev FirstAt : List Refusal → ℕ → ℕ → State → Command → Type 0
@@ -57,16 +48,6 @@ module _ (o : ℕ) (s : State) (c : Command) where
           let k = f n in
           let g = both-true (not (r .ops o && r .given s c)) (noneOf (take (k .0) rs) o s c) (ap not e) (k .3 .2) in
           (suc (k .0), omega (arith, k .1), k .2, (k .3 .0, k .3 .1, g))
-
--- none of the first i rows of the table applies to the command
-unfoldable pub noneBefore : ℕ → State → Command → Bool
-noneBefore i s c = noneOf (take i refusals) (c .op) s c
-
--- the op is one of these, the condition holds, and none of the first i rows of the table applies
-pub record RefusedBy (ops : ℕ → Bool) (given : Test) (i : ℕ) (s : State) (c : Command) : Type 0 where
-  pub asked : ops (c .op) ≡ true
-  pub holds : given s c ≡ true
-  pub first : noneBefore i s c ≡ true
 
 -- row i of the table applies to the command, and none before it does
 abbrev pub Refuses : ℕ → State → Command → Type 0
@@ -124,54 +105,6 @@ row-numbers lo hi h s c n =
     (omega (arith, w .0, k .2), omega (arith, w .1, k .2))
 
 -- ---- the tests made at each op
-
--- the number of the first test that is met, 0 if none is
-unfoldable pub firstMet : List (Test × ℕ) → State → Command → ℕ
-firstMet [] s c = 0
-firstMet (t ∷ ts) s c = let rest = firstMet ts s c in cond (t .0 s c) (t .1) rest
-
--- the last tests of every op that adds
-abbrev pub roomTests : List (Test × ℕ)
-roomTests = (noSlot, 20) ∷ (noText, 21) ∷ (noStamp, 22) ∷ []
-
--- the tests of each op, in their order, with the number that each gives
-unfoldable pub testsOf : List (ℕ × List (Test × ℕ))
-testsOf =
-    (1, (badTree, 11) ∷ (badName, 13) ∷ (present, 17) ∷ roomTests)  -- add
-    ∷ (2, (badTree, 11) ∷ (noneThere, 19) ∷ [])  -- get
-    ∷ (3, (badTree, 11) ∷ (noneThere, 19) ∷ [])  -- remove_by_key
-    ∷ (4, (badTree, 11) ∷ (badSlot, 14) ∷ (stale, 15) ∷ (otherTree, 16) ∷ [])  -- remove by handle
-    ∷ (5, (badTree, 11) ∷ (badSlot, 14) ∷ (stale, 15) ∷ (otherTree, 16) ∷ (noneThere, 19) ∷ [])  -- next of a handle
-    ∷ (6, (badTree, 11) ∷ (badSlot, 14) ∷ (stale, 15) ∷ (otherTree, 16) ∷ (noneThere, 19) ∷ [])  -- prev of a handle
-    ∷ (7, (badTree, 11) ∷ (noneThere, 19) ∷ [])  -- first
-    ∷ (8, (badTree, 11) ∷ (noneThere, 19) ∷ [])  -- last
-    ∷ (9, (badTree, 11) ∷ [])  -- entry
-    ∷ (10, (badTree, 11) ∷ [])  -- first_entry
-    ∷ (11, (badTree, 11) ∷ [])  -- last_entry
-    ∷ (12, (noCursor, 12) ∷ (noneThere, 19) ∷ [])  -- peek_next
-    ∷ (13, (noCursor, 12) ∷ (noneThere, 19) ∷ [])  -- peek_prev
-    ∷ (14, (noCursor, 12) ∷ (noneThere, 19) ∷ [])  -- move_next
-    ∷ (15, (noCursor, 12) ∷ (noneThere, 19) ∷ [])  -- move_prev
-    ∷ (16, (notAtRecord, 12) ∷ (badName, 13) ∷ (notBetween left, 18) ∷ roomTests)  -- insert before
-    ∷ (17, (notAtRecord, 12) ∷ (badName, 13) ∷ (notBetween right, 18) ∷ roomTests)  -- insert after
-    ∷ (18, (notAtRecord, 12) ∷ (badName, 13) ∷ (notBetween left, 18) ∷ roomTests)  -- insert before, and move to it
-    ∷ (19, (notAtRecord, 12) ∷ (badName, 13) ∷ (notBetween right, 18) ∷ roomTests)  -- insert after, and move to it
-    ∷ (20, (notKind 2, 12) ∷ (badName, 13) ∷ (notTheEntrys, 18) ∷ roomTests)  -- insert_node
-    ∷ (21, (notAtRecord, 12) ∷ [])  -- remove at the cursor
-    ∷ (22, (notAtRecord, 12) ∷ (noneThere, 19) ∷ [])  -- remove_prev
-    ∷ (23, (notAtRecord, 12) ∷ (noneThere, 19) ∷ [])  -- remove_next
-    ∷ (24, (notKind 4, 12) ∷ (badName, 13) ∷ (notBetween right, 18) ∷ roomTests)  -- append
-    ∷ (25, (notKind 3, 12) ∷ (badName, 13) ∷ (notBetween left, 18) ∷ roomTests)  -- prepend
-    ∷ (26, (marked, 24) ∷ [])  -- mark
-    ∷ (27, (unmarked, 23) ∷ [])  -- rollback
-    ∷ (28, (unmarked, 23) ∷ [])  -- commit
-    ∷ (29, (marked, 24) ∷ [])  -- reset
-    ∷ []
-
--- those of op n; an unknown op has the one test that is always met
-unfoldable pub testsIn : List (ℕ × List (Test × ℕ)) → ℕ → List (Test × ℕ)
-testsIn [] n = (always, 10) ∷ []
-testsIn (o ∷ os) n = let rest = testsIn os n in cond (eqb (o .0) n) (o .1) rest
 
 -- At each op the table of refusals is the row of its tests.
 pub tests-at : (s : State) (c : Command) → All (λ n. firstOf refusals n s c ≡ firstMet (testsIn testsOf n) s c) everyOp

@@ -14,10 +14,11 @@ use Rattle.meaning.specs.Pool.{Rec, Pool, recAt, treeAt, keyAt, livesIn}
 use Rattle.meaning.specs.Change.{withTrees, withText, withNext, byKeyIn, freeFrom, freeSlot, putRec, dropRec, newRec, addRec, emptied}
 use Rattle.meaning.specs.Doors.{fresh}
 use Rattle.meaning.specs.WellFormed.{GoodRec, WellFormed}
+use Rattle.meaning.specs.States.{Fits}
 use Rattle.meaning.proofs.Bytes.{bytes-append}
 use Rattle.meaning.proofs.Facts.{at-put-other, length-put}
 use Rattle.meaning.proofs.Formed.{Formed, formed, formed-as, room, not-both, edited-recs, put-edited, formed-put-list, formed-put, drop-edited, formed-drop-list, formed-drop}
-use Rattle.meaning.proofs.Good.{Fits, Addable}
+use Rattle.meaning.proofs.Good.{Addable}
 
 -- a record is good in any pool that has as many trees, as much text and as late a next stamp
 pub rec-moves : {p q : Pool} {r : Rec} → length (p .trees) ≤ length (q .trees) → length (p .text) ≤ length (q .text) → p .next ≤ q .next → GoodRec p r

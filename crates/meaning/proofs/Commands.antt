@@ -18,7 +18,8 @@ use Rattle.meaning.specs.Pool.{Pool, treeAt}
 use Rattle.meaning.specs.Change.{byKeyIn, freeSlot, addRec}
 use Rattle.meaning.specs.Cursor.{Command, Cursor, nowhere, occupied, firstEntry, lastEntry, State, cursorTree, standing, treeOf, noRecord, firstFrom, nextOf, nextOfCursor, entryOf, gone, kept, atShown, whereItStood, atFirst, atLast, enteredAt, entered}
 use Rattle.meaning.specs.Command.{show, takeOut, addNew, op_means_does_then_, ops, opIn, opOf, meant, badTree, notAtRecord, notKind, notBetween, noneThere, among, adding, refusal, afterRefusal, refused, carriedOut, perform}
-use Rattle.meaning.proofs.Good.{Addable, CursorOk, at-nowhere, at-vacant, GoodState, Parsed}
+use Rattle.meaning.specs.States.{CursorOk, at-nowhere, at-vacant, GoodState, Parsed}
+use Rattle.meaning.proofs.Good.{Addable}
 use Rattle.meaning.proofs.Changes.{add-good}
 use Rattle.meaning.proofs.Cursors.{lives-cursor, found-lives, next-lives, next-other}
 use Rattle.meaning.proofs.Members.{Lives}

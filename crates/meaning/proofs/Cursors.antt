@@ -21,7 +21,7 @@ use Rattle.meaning.specs.Pool.{Pool, recAt, treeAt, keyAt, livesIn}
 use Rattle.meaning.specs.Change.{byKeyIn}
 use Rattle.meaning.specs.Cursor.{Cursor, nowhere, occupied, vacant, firstEntry, lastEntry, cursorTree, standing, beyond, nextOf}
 use Rattle.meaning.specs.WellFormed.{WellFormed}
-use Rattle.meaning.proofs.Good.{CursorOk, at-nowhere, at-occupied, at-vacant, at-first, at-last}
+use Rattle.meaning.specs.States.{CursorOk, at-nowhere, at-occupied, at-vacant, at-first, at-last}
 use Rattle.meaning.proofs.Members.{Lives, lives, tree-lives}
 use Rattle.meaning.proofs.Neighbours.{all-first, all-following, all-from, count-from, following-after}
 

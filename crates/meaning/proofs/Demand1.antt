@@ -8,26 +8,16 @@ use native.Mathlib.Omega.{arith}
 use lib.Dec.{eqb}
 use lib.ListN.{length}
 use borrow.Author.Tests.{ne-eqb}
-use Rattle.avl.specs.Tree.{left, right}
 use Rattle.avl.specs.Order.{nil, more}
-use Rattle.meaning.specs.Layout.{pack, within, every, span}
-use Rattle.meaning.specs.Pool.{bytes}
-use Rattle.meaning.specs.Cursor.{Command, State, kind}
-use Rattle.meaning.specs.Command.{always, badTree, noCursor, notAtRecord, notKind, marked, unmarked, badName, badSlot, stale, otherTree, present, notBetween, notTheEntrys, noneThere, noSlot, noText, noStamp, among, unknown, adding, refuse_at_if_, refusals, firstOf, refusal, afterRefusal, lastOp, opOf, answer, Performed, refused, carriedOut, perform}
+use Rattle.meaning.specs.Layout.{within, every, span}
+use Rattle.meaning.specs.Cursor.{Command, State}
+use Rattle.meaning.specs.Command.{always, badTree, marked, unmarked, badName, badSlot, stale, otherTree, present, noneThere, noSlot, noText, noStamp, among, unknown, adding, refuse_at_if_, refusals, firstOf, refusal, lastOp, opOf, answer, refused, carriedOut, perform}
+use Rattle.meaning.specs.Refused.{RefusedBy, firstMet, testsOf, testsIn, placeIn, rowOf, atCursorRow, atRecordRow, atVacantRow, atLastRow, atFirstRow, keyBeforeRow, keyBehindRow, keyVacantRow, _exactly-if_, BadCursor, needs-cursor, needs-record, needs-vacant, needs-last, needs-first, BadOrder, put-before, put-behind, put-at-entry, Left}
 use Rattle.meaning.proofs.Among.{all-span, among-all}
-use Rattle.meaning.proofs.Chains.{RefusedBy, Refuses, RefusesOneOf, HaveNumber, number-rows, row-numbers, firstMet, testsOf, testsIn, tests-at}
-use Rattle.meaning.proofs.Tables.{rowIn, placeIn, rowOf, atCursorRow, atRecordRow, atVacantRow, atLastRow, atFirstRow, keyBeforeRow, keyBehindRow, keyVacantRow}
-use Rattle.meaning.proofs.Determined.{_exactly-if_}
+use Rattle.meaning.proofs.Chains.{Refuses, RefusesOneOf, HaveNumber, number-rows, row-numbers, tests-at}
+use Rattle.meaning.proofs.Tables.{rowIn}
 
 -- ---- a refused command
-
--- what a command refused with number e leaves: the pool, the mark, the cursor kept or lost, and an answer of the number, the kind and zeros
-pub record Left (e : ℕ) (s : State) (c : Command) (d : Performed) : Type 0 where
-  pub pool : d .state .pool ≡ s .pool
-  pub pool-bytes : bytes (d .state .pool) ≡ bytes (s .pool)
-  pub mark : d .state .mark ≡ s .mark
-  pub cursor : d .state .cursor ≡ afterRefusal (c .op) e (s .cursor)
-  pub answer : d .answer ≡ pack ((1, e) ∷ (1, kind (d .state .cursor)) ∷ (22, 0) ∷ [])
 
 -- A refused command returns its number and zeroed record fields and changes no byte of the pool.
 pub refused-command : (s : State) (c : Command) (e : ℕ) → refusal s c ≡ e → (e ≡ 0 → ⊥) → Left e s c (perform s c)
@@ -46,20 +36,6 @@ tests-of-op s c h = among-all (λ n. firstOf refusals n s c ≡ firstMet (testsI
 
 -- A number is given exactly if a row of the table `refusals` that has it applies, that is, the op is one of the row's and the row's condition
 -- holds, and no row before it applies. Below, `RefusedBy ops condition i` says so of row i; `rowOf n` is the row of number n.
-
--- 12 is given by one of five rows
-pub data BadCursor (s : State) (c : Command) : Type 0 where
-  needs-cursor : RefusedBy (within 12 15) noCursor atCursorRow s c → BadCursor s c
-  needs-record : RefusedBy (among ((16, 19) ∷ (21, 23) ∷ [])) notAtRecord atRecordRow s c → BadCursor s c
-  needs-vacant : RefusedBy (eqb 20) (notKind 2) atVacantRow s c → BadCursor s c
-  needs-last : RefusedBy (eqb 24) (notKind 4) atLastRow s c → BadCursor s c
-  needs-first : RefusedBy (eqb 25) (notKind 3) atFirstRow s c → BadCursor s c
-
--- 18 by one of three
-pub data BadOrder (s : State) (c : Command) : Type 0 where
-  put-before : RefusedBy (among ((16, 16) ∷ (18, 18) ∷ (25, 25) ∷ [])) (notBetween left) keyBeforeRow s c → BadOrder s c
-  put-behind : RefusedBy (among ((17, 17) ∷ (19, 19) ∷ (24, 24) ∷ [])) (notBetween right) keyBehindRow s c → BadOrder s c
-  put-at-entry : RefusedBy (eqb 20) notTheEntrys keyVacantRow s c → BadOrder s c
 
 table-opened : Unit {0}
 unfolding rowIn placeIn refusals refuse_at_if_ within every span

@@ -12,7 +12,7 @@ use Rattle.meaning.specs.Pool.{bytes, read}
 use Rattle.meaning.specs.Sound.{sound}
 use Rattle.meaning.specs.Command.{refuse_at_if_, refusal}
 use Rattle.meaning.specs.Doors.{fresh, sizesOk, Created, create, check, nCommands, batchOk, begun, batchRefusal, batch, removal, name}
-use Rattle.meaning.proofs.Determined.{_exactly-if_}
+use Rattle.meaning.specs.Refused.{_exactly-if_}
 use Rattle.meaning.proofs.Facts.{test}
 use Rattle.meaning.proofs.Tables.{never}
 

@@ -22,15 +22,16 @@ use Rattle.meaning.specs.Command.{perform}
 use Rattle.meaning.specs.Doors.{nCommands, commands, run, begun, ended, batchRefusal, Outcome, carriedOut, batch}
 use Rattle.meaning.specs.WellFormed.{WellFormed}
 use Rattle.meaning.specs.Meant.{Entry, entriesOf, total}
+use Rattle.meaning.specs.States.{GoodState, Parsed}
+use Rattle.meaning.specs.Demands.{RowSays, SameSizes, InTurn}
 use Rattle.meaning.proofs.Batches.{AllParsed, commands-parsed, begun-good, run-good, ended-good}
 use Rattle.meaning.proofs.Commands.{perform-good}
 use Rattle.meaning.proofs.Demand1Doors.{batch-allowed}
 use Rattle.meaning.proofs.Entries.{entryAt, entry-key, any-sorted}
-use Rattle.meaning.proofs.Good.{GoodState, Parsed}
 use Rattle.meaning.proofs.Packed.{HeaderSays, entry-at, written-header, written-entries, written-records}
 use Rattle.meaning.proofs.Pools.{sound-pool, good-state}
-use Rattle.meaning.proofs.Rows.{RowSays, live-row, root-is, count-is}
-use Rattle.meaning.proofs.Sizes.{SameSizes, command-sizes, batch-sizes}
+use Rattle.meaning.proofs.Rows.{live-row, root-is, count-is}
+use Rattle.meaning.proofs.Sizes.{command-sizes, batch-sizes}
 use Rattle.meaning.proofs.Totals.{live-total}
 use Rattle.meaning.proofs.Turns.{answers-long, turn-state, turn-part, parsed-split, commands-many}
 
@@ -112,15 +113,6 @@ pub answered-is : (b w a : List ℕ) → batchRefusal b w a ≡ 0
 answered-is b w a z =
     let n : batch b w a .answered ≡ length (commands w) = ap (λ (o : Outcome). o .answered) (batch-done b w a z) ∙ sym (commands-many w) in
     (n, answers-long (begun (read b)) (commands w) ∙ ap (λ (m : ℕ). 24 * m) (sym n))
-
--- a command of a batch, with those before it and those behind it: the state in which it begins is good, so that the laws of single commands hold of it;
--- its answer is that of the command performed in that state and stands at its place; and the rest of the batch goes on from the state that it leaves
-pub record InTurn (b w a : List ℕ) (before : List Command) (c : Command) (behind : List Command) : Type 0 where
-  pub mark : Option Pool
-  pub good : GoodState mark (run (begun (read b)) before .state)
-  pub parsed : Parsed c
-  pub answer : part (batch b w a .answers) (24 * length before) 24 ≡ perform (run (begun (read b)) before .state) c .answer
-  pub goes-on : run (begun (read b)) (commands w) .state ≡ run (perform (run (begun (read b)) before .state) c .state) behind .state
 
 -- Every command of a batch is performed in turn, in the state that the commands before it left.
 pub in-turn : (b w a : List ℕ) → Bytes b → Bytes w → batchRefusal b w a ≡ 0 → (before : List Command) (c : Command) (behind : List Command)

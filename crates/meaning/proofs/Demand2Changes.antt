@@ -1,52 +1,38 @@
 -- Demand 2, the ops that change the pool, over the lists alone: what is added and removed, what stays as it was, and the shape of the tree after it.
 -- Assumes nothing.
 use mathlib.Core.Bool.{Bool, true, false, not, cond}
-use mathlib.Core.List.{List, [], _∷_, _++_}
+use mathlib.Core.List.{List, [], _∷_}
 use mathlib.Core.Option.{Option, none, some}
 use mathlib.Core.Path.{_≡_, refl, sym, ap, ap₂, _∙_, subst}
-use Prim.Native.Nat.{ℕ, suc}
+use Prim.Native.Nat.{ℕ}
 use native.Mathlib.Omega.{arith}
 use lib.Dec.{leb, ltb, eqb}
 use lib.ListN.{length}
 use borrow.Author.Tests.{eq-eqb, le-leb}
 use Rattle.avl.specs.Tree.{left, list}
-use Rattle.avl.specs.Search.{add, removeByKey}
 use Rattle.meaning.specs.Layout.{within}
-use Rattle.meaning.specs.Pool.{Rec, Pool, recAt, treeAt}
-use Rattle.meaning.specs.Change.{withTrees, withText, byKeyIn, added, removed, freeSlot, addRec, dropRec, emptied, opening, noted, rolledBack}
+use Rattle.meaning.specs.Pool.{Pool, treeAt}
+use Rattle.meaning.specs.Change.{withTrees, withText, freeSlot, addRec, emptied, opening, rolledBack}
 use Rattle.meaning.specs.Cursor.{Command, Cursor, nowhere, State, kind, treeOf, noRecord, gone}
-use Rattle.meaning.specs.Command.{Act, Done, takenOut, takeOut, addNew, silent, openMark, rollBack, commit, reset, op_means_does_then_, ops, opIn, opOf, meant, badTree, noneThere, among, adding, refusal, answer, Performed, carriedOut, perform}
+use Rattle.meaning.specs.Command.{Act, Done, addNew, silent, openMark, rollBack, commit, reset, op_means_does_then_, ops, opIn, opOf, meant, badTree, noneThere, among, adding, refusal, answer, Performed, carriedOut, perform}
 use Rattle.meaning.specs.WellFormed.{WellFormed}
-use Rattle.meaning.specs.Meant.{Entry, entriesOf, lookup, isNone, insertByKey, without, newEntry, shown, ofKey, sights, sightIn, seen, removing}
+use Rattle.meaning.specs.Meant.{Entry, entriesOf, lookup, isNone, insertByKey, newEntry, shown, ofKey, sights, sightIn, seen, removing}
+use Rattle.meaning.specs.States.{GoodState, Parsed}
+use Rattle.meaning.specs.Refused.{firstMet, testsOf, testsIn}
+use Rattle.meaning.specs.Demands.{Added, Removed}
 use Rattle.meaning.proofs.Acts.{add-trees, add-lives}
 use Rattle.meaning.proofs.Adding.{adding-ok}
-use Rattle.meaning.proofs.Chains.{firstMet, testsOf, testsIn}
 use Rattle.meaning.proofs.Commands.{markedAt, perform-good}
 use Rattle.meaning.proofs.Demand1.{tests-of-op}
 use Rattle.meaning.proofs.Demand2Looks.{looks, none-is}
-use Rattle.meaning.proofs.Entries.{entryAt, entry-live, entry-slot, entry-key, answer-shows, lookup-absent}
-use Rattle.meaning.proofs.EntryChanges.{add-text, add-next, add-entry, add-entries, add-others, add-other-trees, add-tree, drop-text, drop-next, drop-entries, drop-others, drop-other-trees, drop-tree, emptied-entries}
+use Rattle.meaning.proofs.Entries.{entryAt, entry-live, answer-shows, lookup-absent}
+use Rattle.meaning.proofs.EntryChanges.{add-text, add-next, add-entry, add-entries, add-others, add-other-trees, add-tree, emptied-entries}
 use Rattle.meaning.proofs.Facts.{both-true}
-use Rattle.meaning.proofs.Formed.{not-both, live-key}
-use Rattle.meaning.proofs.Good.{GoodState, Parsed}
-use Rattle.meaning.proofs.Members.{Lives}
+use Rattle.meaning.proofs.Formed.{not-both}
+use Rattle.meaning.proofs.Removals.{removed-it}
 use Rattle.meaning.proofs.Seen.{done-is, finds, removing-takes, adding-adds}
-use Rattle.meaning.proofs.Tables.{tree-is}
 
 -- ---- adding
-
--- the command has added the entry e to tree t: the tree's list has it at the place of its key and the other lists are as they were; the name stands
--- behind the text that there was, the next stamp is one more, and the answer shows the entry. The tree's shape is that of the Rust's `add`
-pub record Added (s : State) (c : Command) (t : ℕ) (e : Entry) : Type 0 where
-  pub list : entriesOf (perform s c .state .pool) t ≡ insertByKey e (entriesOf (s .pool) t)
-  pub others : (u : ℕ) → (u ≡ t → ⊥) → entriesOf (perform s c .state .pool) u ≡ entriesOf (s .pool) u
-  pub text : perform s c .state .pool .text ≡ s .pool .text ++ e .name
-  pub next : perform s c .state .pool .next ≡ suc (s .pool .next)
-  pub mark : perform s c .state .mark ≡ noted (added (e .slot)) (s .mark)
-  pub cursor : perform s c .state .cursor ≡ opOf c .then s c (e .slot)
-  pub answer : perform s c .answer ≡ shown 0 (kind (perform s c .state .cursor)) (some e)
-  pub shape : treeAt (perform s c .state .pool) t ≡ add (byKeyIn (s .pool) (e .key)) (e .slot) (treeAt (s .pool) t)
-  pub other-shapes : (u : ℕ) → (u ≡ t → ⊥) → treeAt (perform s c .state .pool) u ≡ treeAt (s .pool) u
 
 -- the pool after one of the ops that add
 adds-pool : (w : Option Pool) (s : State) (c : Command) → Parsed c → GoodState w s → adding (c .op) ≡ true → refusal s c ≡ 0
@@ -93,72 +79,13 @@ adds w s c parsed g h z =
 
 -- ---- removing
 
--- the command has removed the entry e from tree t: the tree's list is without its slot and the other lists are as they were, as are the text and the
--- next stamp, and the answer shows the entry as it was. The tree's shape is that of the Rust's `remove`
-pub record Removed (s : State) (c : Command) (t : ℕ) (e : Entry) : Type 0 where
-  pub list : entriesOf (perform s c .state .pool) t ≡ without (e .slot) (entriesOf (s .pool) t)
-  pub others : (u : ℕ) → (u ≡ t → ⊥) → entriesOf (perform s c .state .pool) u ≡ entriesOf (s .pool) u
-  pub text : perform s c .state .pool .text ≡ s .pool .text
-  pub next : perform s c .state .pool .next ≡ s .pool .next
-  pub rec : Rec
-  pub was : recAt (s .pool) (e .slot) ≡ some rec
-  pub mark : perform s c .state .mark ≡ noted (removed (e .slot) rec) (s .mark)
-  pub cursor : perform s c .state .cursor ≡ opOf c .then s c (e .slot)
-  pub answer : perform s c .answer ≡ shown 0 (kind (perform s c .state .cursor)) (some e)
-  pub shape : treeAt (perform s c .state .pool) t ≡ removeByKey (byKeyIn (s .pool) (e .key)) (treeAt (s .pool) t)
-  pub other-shapes : (u : ℕ) → (u ≡ t → ⊥) → treeAt (perform s c .state .pool) u ≡ treeAt (s .pool) u
-
 module _ (w : Option Pool) (s : State) (c : Command) (g : GoodState w s) where
-  -- What an op that takes a live record out leaves.
-  pub removed-it : (t x : ℕ) (l : Lives (s .pool) t x) → meant s c ≡ x → opOf c .does ≡ takeOut → refusal s c ≡ 0 → Removed s c t (entryAt (s .pool) x)
-  unfolding carriedOut takeOut takenOut meant
-  removed-it t x l i h z =
-      let o = opOf c in
-      let p = s .pool in
-      let good = g .pool in
-      let r = l .rec in
-      let q = done-is s c z in
-      let d : o .does s c (o .means s c) ≡ takenOut s x (some r) =
-      ap₂ (λ (f : Act) (y : ℕ). f s c y) h i ∙ ap (takenOut s x) (l .is) in
-      let pool : perform s c .state .pool ≡ dropRec x r p = ap (λ (y : Performed). y .state .pool) q ∙ ap (λ (y : Done). y .pool) d in
-      let now = ap (λ (y : Performed). y .state .cursor) q in
-      let slot : entryAt p x .slot ≡ x = entry-slot p l in
-      let key : r .key ≡ entryAt p x .key = sym (entry-key p x ∙ live-key p x r (l .is)) in
-      let home : r .tree ≡ t = l .tree-is in
-      let j = kind (carriedOut o s c .state .cursor) in
-      record {
-        list =
-            ap (λ (y : Pool). entriesOf y t) pool
-            ∙ subst (λ (u : ℕ). entriesOf (dropRec x r p) u ≡ without x (entriesOf p u)) home (drop-entries p x r good (l .is))
-            ∙ ap (λ (y : ℕ). without y (entriesOf p t)) (sym slot);
-        others = λ u n. ap (λ (y : Pool). entriesOf y u) pool ∙ drop-others p x r good (l .is) u (λ e. n (e ∙ home));
-        text = ap (λ (y : Pool). y .text) pool ∙ drop-text p x r good (l .is);
-        next = ap (λ (y : Pool). y .next) pool ∙ drop-next p x r good (l .is);
-        rec = r;
-        was = ap (recAt p) slot ∙ l .is;
-        mark =
-            ap (λ (y : Performed). y .state .mark) q ∙ ap (λ (y : Done). y .mark) d
-            ∙ ap (λ (y : ℕ). noted (removed y r) (s .mark)) (sym slot);
-        cursor = now ∙ ap (λ (y : Done). o .then s c (y .shown)) d ∙ ap (o .then s c) (sym slot);
-        answer =
-            ap (λ (y : Performed). y .answer) q
-            ∙ ap (λ (y : Done). answer 0 j (y .shown) (y .rec)) d
-            ∙ ap (answer 0 j x) (sym (l .is))
-            ∙ answer-shows p good 0 j x
-            ∙ ap₂ (λ (m : Cursor) (y : Option Entry). shown 0 (kind m) y) (sym now) (entry-live p l);
-        shape =
-            ap (λ (y : Pool). treeAt y t) pool
-            ∙ subst (λ (u : ℕ). treeAt (dropRec x r p) u ≡ removeByKey (byKeyIn p (r .key)) (treeAt p u)) home (drop-tree p x r good (l .is))
-            ∙ ap (λ (y : ℕ). removeByKey (byKeyIn p y) (treeAt p t)) key;
-        other-shapes = λ u n. ap (λ (y : Pool). treeAt y u) pool ∙ drop-other-trees p x r good (l .is) u (λ e. n (e ∙ home));
-      }
-
   -- Ops 3, 4 and 21 to 23 remove the entry that the table `sights` gives for them over the lists.
   pub removes : removing (c .op) ≡ true → refusal s c ≡ 0 → (e : Entry) × (seen (s .pool) (s .cursor) c ≡ some e) × Removed s c (treeOf s c) e
   removes h z =
       let f = finds w s c g h z in
       let l = f .0 in
-      (entryAt (s .pool) (meant s c), sym (f .1) ∙ entry-live (s .pool) l, removed-it (treeOf s c) (meant s c) l refl (removing-takes c h) z)
+      (entryAt (s .pool) (meant s c), sym (f .1) ∙ entry-live (s .pool) l, removed-it w s c g (treeOf s c) (meant s c) l refl (removing-takes c h) z)
 
 -- ---- a get after a done add
 

@@ -13,24 +13,24 @@ use Rattle.meaning.specs.Layout.{within, span}
 use Rattle.meaning.specs.Pool.{Pool, recAt}
 use Rattle.meaning.specs.Change.{freeSlot}
 use Rattle.meaning.specs.Cursor.{Command, State, standing, cursorTree, entryKey, nextOfCursor}
-use Rattle.meaning.specs.Command.{badTree, noCursor, notAtRecord, notKind, badName, badSlot, stale, otherTree, past, notBetween, isOther, notTheEntrys, noneThere, noSlot, noText, noStamp, among, lastOp, refusal}
+use Rattle.meaning.specs.Command.{badTree, noCursor, notAtRecord, notKind, badName, badSlot, stale, otherTree, past, notBetween, isOther, notTheEntrys, noneThere, noSlot, among, lastOp, refusal}
 use Rattle.meaning.specs.WellFormed.{WellFormed}
-use Rattle.meaning.specs.Meant.{Entry, entriesOf, lookup, inSlot, front, facing, isNone, onSide, total, ofCursor, besideCursor, seen}
+use Rattle.meaning.specs.Meant.{Entry, entriesOf, lookup, inSlot, front, facing, isNone, onSide, total, ofCursor, seen}
+use Rattle.meaning.specs.States.{GoodState}
+use Rattle.meaning.specs.Refused.{firstMet, testsOf, testsIn, _exactly-if_}
+use Rattle.meaning.specs.Demands.{HasHandle, seeing, room, outOfOrder, notPastEnd}
 use Rattle.meaning.proofs.Adding.{kind-ok}
 use Rattle.meaning.proofs.Among.{among-all}
-use Rattle.meaning.proofs.Chains.{firstMet, testsOf, testsIn}
 use Rattle.meaning.proofs.Changes.{free-slot}
 use Rattle.meaning.proofs.Demand1.{tests-of-op}
-use Rattle.meaning.proofs.Demand2Handles.{HasHandle, handle-is}
+use Rattle.meaning.proofs.Demand2Handles.{handle-is}
 use Rattle.meaning.proofs.Demand2Looks.{none-is, present-is, order-is}
-use Rattle.meaning.proofs.Determined.{_exactly-if_}
 use Rattle.meaning.proofs.Entries.{entryAt, entry-live}
 use Rattle.meaning.proofs.Facts.{test}
 use Rattle.meaning.proofs.Formed.{not-both}
 use Rattle.meaning.proofs.FreeSlots.{below-free, none-free}
-use Rattle.meaning.proofs.Good.{GoodState}
 use Rattle.meaning.proofs.Members.{Lives, slot-in}
-use Rattle.meaning.proofs.Seen.{past-seen, end-seen, seeing}
+use Rattle.meaning.proofs.Seen.{past-seen, end-seen}
 use Rattle.meaning.proofs.Sights.{none-zero, sees-slot, sees-standing, unlisted}
 use Rattle.meaning.proofs.Tables.{never}
 use Rattle.meaning.proofs.Totals.{live-total}
@@ -44,8 +44,7 @@ and-true false = refl
 -- there is nothing to lie past where there is no record
 none-past : (d : Dir) (p : Pool) (k : ℕ) → past p d 0 k ≡ true
 unfolding past
-none-past left p k = refl
-none-past right p k = refl
+none-past d p k = refl
 
 four : (a b d e : Bool) (n : ℕ) → (cond a 11 (cond b 14 (cond d 15 (cond e 16 n))) ≡ 0)
     exactly-if ((a ≡ false) × ((b ≡ false) × (d ≡ false) × (e ≡ false)) × (n ≡ 0))
@@ -62,10 +61,6 @@ last false = (λ h. refl, λ h. refl)
 codes-opened : Unit {0}
 unfolding span within among firstMet testsIn testsOf
 codes-opened = tt
-
--- the last three tests of every op that adds: no free slot, no room for the name, no stamp left
-abbrev pub room : State → Command → ℕ
-room s c = cond (noSlot s c) 20 (cond (noText s c) 21 (cond (noStamp s c) 22 0))
 
 module _ (w : Option Pool) (s : State) (c : Command) (g : GoodState w s) where
   -- the tests of op n are these two, the second that no entry is seen
@@ -127,41 +122,32 @@ module _ (w : Option Pool) (s : State) (c : Command) (g : GoodState w s) where
       tests-of-op s c (rw i) ∙ ap (λ (n : ℕ). firstMet (testsIn testsOf n) s c) i
       ∙ ap (λ (b : Bool). cond (badTree s c) 11 (cond (badName s c) 13 (cond b 17 (room s c)))) (present-is w s c g)
 
-  -- the key is not strictly between the entry that the cursor is at and the one on side d of it
-  abbrev pub outOfOrder : Dir → Bool
-  outOfOrder d =
-      not (onSide d (c .key) (ofCursor (entriesOf (s .pool)) (s .cursor) c) && onSide (flip d) (c .key) (besideCursor d (entriesOf (s .pool)) (s .cursor) c))
-
   abbrev PutTests : Dir → (State → Command → Bool) → ℕ → Type 0
   PutTests d f n =
       (firstMet (testsIn testsOf n) s c ≡ cond (f s c) 12 (cond (badName s c) 13 (cond (notBetween d s c) 18 (room s c)))) × (within 1 lastOp n ≡ true)
 
   put-tests : (d : Dir) (f : State → Command → Bool) → PutTests d f (c .op)
-      → refusal s c ≡ cond (f s c) 12 (cond (badName s c) 13 (cond (outOfOrder d) 18 (room s c)))
+      → refusal s c ≡ cond (f s c) 12 (cond (badName s c) 13 (cond (outOfOrder s c d) 18 (room s c)))
   put-tests d f k =
       tests-of-op s c (k .1) ∙ k .0 ∙ ap (λ (b : Bool). cond (f s c) 12 (cond (badName s c) 13 (cond b 18 (room s c)))) (order-is w s c g d)
 
   -- Ops 16 to 19 are refused with BAD_CURSOR, BAD_NAME, ORDER exactly if the key is out of order on their side, and for want of room: 16 and 18,
   pub before-code : among ((16, 16) ∷ (18, 18) ∷ []) (c .op) ≡ true
-      → refusal s c ≡ cond (isNone (ofCursor (entriesOf (s .pool)) (s .cursor) c)) 12 (cond (badName s c) 13 (cond (outOfOrder left) 18 (room s c)))
+      → refusal s c ≡ cond (isNone (ofCursor (entriesOf (s .pool)) (s .cursor) c)) 12 (cond (badName s c) 13 (cond (outOfOrder s c left) 18 (room s c)))
   unfolding codes-opened
   before-code h =
       put-tests left notAtRecord (among-all (PutTests left notAtRecord) ((16, 16) ∷ (18, 18) ∷ []) (c .op) h (more (refl, refl) (more (refl, refl) nil)))
-      ∙ ap (λ (b : Bool). cond b 12 (cond (badName s c) 13 (cond (outOfOrder left) 18 (room s c)))) at-record-is
+      ∙ ap (λ (b : Bool). cond b 12 (cond (badName s c) 13 (cond (outOfOrder s c left) 18 (room s c)))) at-record-is
 
   -- and 17 and 19.
   pub behind-code : among ((17, 17) ∷ (19, 19) ∷ []) (c .op) ≡ true
-      → refusal s c ≡ cond (isNone (ofCursor (entriesOf (s .pool)) (s .cursor) c)) 12 (cond (badName s c) 13 (cond (outOfOrder right) 18 (room s c)))
+      → refusal s c ≡ cond (isNone (ofCursor (entriesOf (s .pool)) (s .cursor) c)) 12 (cond (badName s c) 13 (cond (outOfOrder s c right) 18 (room s c)))
   unfolding codes-opened
   behind-code h =
       put-tests right notAtRecord (among-all (PutTests right notAtRecord) ((17, 17) ∷ (19, 19) ∷ []) (c .op) h (more (refl, refl) (more (refl, refl) nil)))
-      ∙ ap (λ (b : Bool). cond b 12 (cond (badName s c) 13 (cond (outOfOrder right) 18 (room s c)))) at-record-is
+      ∙ ap (λ (b : Bool). cond b 12 (cond (badName s c) 13 (cond (outOfOrder s c right) 18 (room s c)))) at-record-is
 
-  -- the key is not strictly past the end on side e of the cursor's tree: not above the last entry, not below the first
-  abbrev pub notPastEnd : Dir → Bool
-  notPastEnd e = not (onSide e (c .key) (front (facing (flip e) (entriesOf (s .pool) (cursorTree (s .cursor))))))
-
-  end-order : (e : Dir) → notKind (pick e 3 4) s c ≡ false → notBetween e s c ≡ notPastEnd e
+  end-order : (e : Dir) → notKind (pick e 3 4) s c ≡ false → notBetween e s c ≡ notPastEnd s c e
   unfolding notBetween nextOfCursor
   end-order e h =
       let k = s .cursor in
@@ -172,7 +158,7 @@ module _ (w : Option Pool) (s : State) (c : Command) (g : GoodState w s) where
       ∙ ap not (and-true (onSide e (c .key) (front (facing (flip e) (entriesOf p (cursorTree k))))))
 
   end-tests : (e : Dir) → PutTests e (notKind (pick e 3 4)) (c .op)
-      → refusal s c ≡ cond (notKind (pick e 3 4) s c) 12 (cond (badName s c) 13 (cond (notPastEnd e) 18 (room s c)))
+      → refusal s c ≡ cond (notKind (pick e 3 4) s c) 12 (cond (badName s c) 13 (cond (notPastEnd s c e) 18 (room s c)))
   end-tests e k =
       tests-of-op s c (k .1) ∙ k .0
       ∙ test (notKind (pick e 3 4) s c) (λ t. choose _ t ∙ sym (choose _ t))
@@ -183,12 +169,12 @@ module _ (w : Option Pool) (s : State) (c : Command) (g : GoodState w s) where
 
   -- Op 24 is refused with BAD_CURSOR but at the last entry, with BAD_NAME, with ORDER exactly if the key is not above the last entry's, and for want of
   -- room;
-  pub append-code : c .op ≡ 24 → refusal s c ≡ cond (notKind 4 s c) 12 (cond (badName s c) 13 (cond (notPastEnd right) 18 (room s c)))
+  pub append-code : c .op ≡ 24 → refusal s c ≡ cond (notKind 4 s c) 12 (cond (badName s c) 13 (cond (notPastEnd s c right) 18 (room s c)))
   unfolding codes-opened
   append-code i = end-tests right (rw i (refl, refl))
 
   -- op 25 so but at the first entry, and with ORDER exactly if the key is not below the first entry's.
-  pub prepend-code : c .op ≡ 25 → refusal s c ≡ cond (notKind 3 s c) 12 (cond (badName s c) 13 (cond (notPastEnd left) 18 (room s c)))
+  pub prepend-code : c .op ≡ 25 → refusal s c ≡ cond (notKind 3 s c) 12 (cond (badName s c) 13 (cond (notPastEnd s c left) 18 (room s c)))
   unfolding codes-opened
   prepend-code i = end-tests left (rw i (refl, refl))
 

@@ -1,6 +1,5 @@
 -- Demand 2, handles over the lists alone: what each of the three tests of a slot and a stamp says. Assumes nothing.
 use mathlib.Core.Bool.{true, false, not}
-use mathlib.Core.List.{List}
 use mathlib.Core.Option.{Option, none, some}
 use mathlib.Core.Path.{_≡_, refl, sym, ap, _∙_}
 use Prim.Native.Nat.{ℕ}
@@ -14,22 +13,17 @@ use Rattle.meaning.specs.Cursor.{Command, State}
 use Rattle.meaning.specs.Command.{badSlot, isStale, stale, isElsewhere, otherTree}
 use Rattle.meaning.specs.WellFormed.{WellFormed}
 use Rattle.meaning.specs.Meant.{Entry, entryFor, entriesOf, inSlot}
+use Rattle.meaning.specs.States.{GoodState}
+use Rattle.meaning.specs.Refused.{_exactly-if_}
+use Rattle.meaning.specs.Demands.{HasHandle}
 use Rattle.meaning.proofs.Cursors.{lives-is}
-use Rattle.meaning.proofs.Determined.{_exactly-if_}
 use Rattle.meaning.proofs.Entries.{entryAt, entry-live}
 use Rattle.meaning.proofs.Facts.{test, both-true}
 use Rattle.meaning.proofs.Formed.{not-both}
-use Rattle.meaning.proofs.Good.{GoodState}
 use Rattle.meaning.proofs.Members.{Lives, lives, slot-in}
 use Rattle.meaning.proofs.Seen.{handle-lives}
 use Rattle.meaning.proofs.Sights.{sees-slot, unlisted}
 use Rattle.meaning.proofs.Tables.{never}
-
--- the list has an entry with this slot and stamp
-pub record HasHandle (l : List Entry) (x stamp : ℕ) : Type 0 where
-  pub entry : Entry
-  pub is : inSlot x l ≡ some entry
-  pub stamp-is : entry .stamp ≡ stamp
 
 -- ---- a live slot and the list of its tree
 

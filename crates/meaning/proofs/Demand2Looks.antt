@@ -1,7 +1,7 @@
 -- Demand 2, the ops that look, over the lists alone: what is shown, and when there is none, a key is present or out of order. Assumes nothing.
 use mathlib.Core.Bool.{Bool, true, false, not, _&&_}
 use mathlib.Core.List.{List}
-use mathlib.Core.Option.{Option, none, some}
+use mathlib.Core.Option.{Option}
 use mathlib.Core.Path.{_≡_, refl, sym, ap, ap₂, _∙_, subst}
 use Prim.Native.Nat.{ℕ}
 use Rattle.avl.specs.Tree.{Dir, flip, Tree, leaf, node, top}
@@ -17,23 +17,17 @@ use Rattle.meaning.specs.Cursor.{Command, Cursor, occupied, vacant, Stat
 use Rattle.meaning.specs.Command.{Act, Done, show, op_means_does_then_, ops, opIn, opOf, meant, badTree, present, notBetween, noneThere, refusal, answer, Performed, carriedOut, perform}
 use Rattle.meaning.specs.WellFormed.{WellFormed}
 use Rattle.meaning.specs.Meant.{Entry, entriesOf, lookup, facing, firstPast, isNone, slotOf, onSide, shown, ofCursor, besideCursor, seen}
+use Rattle.meaning.specs.States.{GoodState}
+use Rattle.meaning.specs.Demands.{seeing, looking, Looked, Entered, found, missed}
 use Rattle.meaning.proofs.Adding.{tree-ok}
 use Rattle.meaning.proofs.Cursors.{found-lives}
 use Rattle.meaning.proofs.Entries.{entryAt, liveEntry, entry-zero, entry-live, entry-slot, answer-shows, lookup-get}
-use Rattle.meaning.proofs.Good.{GoodState}
 use Rattle.meaning.proofs.Members.{Lives}
-use Rattle.meaning.proofs.Seen.{done-is, slot-seen, past-seen, seeing, sees, looking, looking-sees, looking-shows}
+use Rattle.meaning.proofs.Seen.{done-is, slot-seen, past-seen, sees, looking-sees, looking-shows}
 use Rattle.meaning.proofs.Sights.{Sees, none-zero, sees-key, sees-past, sees-standing, sees-next}
 use Rattle.meaning.proofs.Tables.{passed}
 
 -- ---- what is shown
-
--- the command has changed nothing but the cursor, and its answer shows this entry
-pub record Looked (s : State) (c : Command) (e : Option Entry) : Type 0 where
-  pub pool : perform s c .state .pool ≡ s .pool
-  pub mark : perform s c .state .mark ≡ s .mark
-  pub cursor : perform s c .state .cursor ≡ opOf c .then s c (slotOf e)
-  pub answer : perform s c .answer ≡ shown 0 (kind (perform s c .state .cursor)) e
 
 -- any op that only shows the record it means
 shows-it : (s : State) (c : Command) → WellFormed (s .pool) → {t : ℕ} {e : Option Entry} → opOf c .does ≡ show → Sees (s .pool) t (meant s c) e
@@ -84,14 +78,6 @@ module _ (w : Option Pool) (s : State) (c : Command) (g : GoodState w s) where
       (past-seen (flip d) (nextOfCursor d s c) (c .key) (sees-next (s .pool) (g .pool) d (s .cursor) c (g .cursor)))
 
 -- ---- op 9
-
--- What op 9 answers for the key k in the tree t with the list l: if an entry has the key, that entry, and the cursor is at it; if none has, the entry
--- just before the place of the key or the one just behind it. Which of the two is not a matter of the list: it is the one that the key would hang on.
--- The cursor's side says which: hung to the right, the entry shown is the previous one, hung to the left the next.
-pub data Entered (l : List Entry) (t k : ℕ) (d : Performed) : Type 0 where
-  found : (e : Entry) → lookup k l ≡ some e → d .state .cursor ≡ occupied t (e .slot) → d .answer ≡ shown 0 1 (some e) → Entered l t k d
-  missed : (hung : Dir) (e : Option Entry) → lookup k l ≡ none → e ≡ firstPast (flip hung) k (facing (flip hung) l)
-      → d .state .cursor ≡ vacant t (slotOf e) hung k → d .answer ≡ shown 0 2 e → Entered l t k d
 
 -- the search for the command's key in its tree ends at the place v, where u stands
 abbrev EndsAt : State → Command → Tree → Way → Type 0

@@ -30,14 +30,15 @@ use Rattle.meaning.specs.Places.{Stands}
 use Rattle.meaning.proofs.Adding.{kind-ok, AtEnd, end-ok, adding-ok}
 use Rattle.meaning.proofs.Among.{among-all}
 use Rattle.meaning.proofs.Cursors.{lives-is, lives-tree, standing-lives}
-use Rattle.meaning.proofs.Demand2Shapes.{inserted-shape, besideOps, beside-ops, beside-tree, beside-shape, removed-shape}
+use Rattle.meaning.proofs.Demand2Shapes.{inserted-shape, beside-ops, beside-tree, beside-shape, removed-shape}
 use Rattle.meaning.proofs.Entries.{any-live, any-sorted}
 use Rattle.meaning.proofs.Facts.{test, count-append}
-use Rattle.meaning.proofs.Good.{GoodState, Parsed, NewKey}
 use Rattle.meaning.proofs.Members.{Lives}
 use Rattle.meaning.proofs.Neighbours.{all-from}
 use Rattle.meaning.proofs.Seen.{finds}
 use Rattle.meaning.proofs.Tables.{passed}
+use Rattle.meaning.specs.Demands.{besideOps}
+use Rattle.meaning.specs.States.{GoodState, Parsed, NewKey}
 
 -- ---- a record stands in its tree
 

@@ -6,7 +6,7 @@ use mathlib.Core.Option.{Option}
 use mathlib.Core.Path.{_≡_, refl, sym, ap, _∙_, subst}
 use Prim.Native.Nat.{ℕ, Ordering}
 use native.Mathlib.Omega.{arith}
-use Rattle.avl.specs.Tree.{Dir, left, right, flip, pick, Bal, Tree, leaf, node, branch, list}
+use Rattle.avl.specs.Tree.{Dir, left, right, flip, Bal, Tree, leaf, node, branch, list}
 use Rattle.avl.specs.Way.{Way, step, plug, before, after}
 use Rattle.avl.specs.Edit.{insert, insertHere, remove}
 use Rattle.avl.specs.Search.{Spot, three, toward, seek, entry, added, add, taking, removeByKey}
@@ -23,15 +23,17 @@ use Rattle.meaning.specs.Change.{byKeyIn, freeSlot}
 use Rattle.meaning.specs.Cursor.{Command, State, cursorTree, standing, treeOf, beyond, nextOf}
 use Rattle.meaning.specs.Command.{meant, past, notBetween, among, adding, refusal, perform}
 use Rattle.meaning.specs.Meant.{newEntry, removing}
+use Rattle.meaning.specs.States.{GoodState, Parsed}
+use Rattle.meaning.specs.Demands.{besideOps}
 use Rattle.meaning.proofs.Adding.{order-ok}
 use Rattle.meaning.proofs.Among.{among-all}
 use Rattle.meaning.proofs.Cursors.{standing-next}
-use Rattle.meaning.proofs.Demand2Changes.{adds, removed-it}
+use Rattle.meaning.proofs.Demand2Changes.{adds}
 use Rattle.meaning.proofs.Entries.{entry-key, any-live, any-sorted}
-use Rattle.meaning.proofs.Good.{GoodState, Parsed}
 use Rattle.meaning.proofs.Members.{Lives}
 use Rattle.meaning.proofs.Neighbours.{all-from}
 use Rattle.meaning.proofs.NewKeys.{past-says}
+use Rattle.meaning.proofs.Removals.{removed-it}
 use Rattle.meaning.proofs.Seen.{finds, removing-takes}
 use Rattle.meaning.proofs.Sights.{following-at, before-others}
 use Rattle.meaning.proofs.Tables.{passed, tree-is}
@@ -45,10 +47,6 @@ pub inserted-shape : (w : Option Pool) (s : State) (c : Command) → Parsed c �
 unfolding newEntry add
 inserted-shape w s c parsed g h z q e =
     adds w s c parsed g h z .shape ∙ ap (λ (f : Spot). added (f .part) (f .way) (freeSlot (s .pool)) (treeAt (s .pool) (treeOf s c))) e
-
--- the ops that put a record in on side d of the cursor's record: before it 16, 18 and 25, behind it 17, 19 and 24
-abbrev pub besideOps : Dir → List (ℕ × ℕ)
-besideOps d = pick d ((16, 16) ∷ (18, 18) ∷ (25, 25) ∷ []) ((17, 17) ∷ (19, 19) ∷ (24, 24) ∷ [])
 
 -- they add, and use the cursor's tree
 pub beside-ops : (d : Dir) (n : ℕ) → among (besideOps d) n ≡ true → (adding n ≡ true) × (within 1 11 n ≡ false)

@@ -10,7 +10,7 @@ use Rattle.meaning.specs.Cursor.{Command, State}
 use Rattle.meaning.specs.Command.{refusal, perform}
 use Rattle.meaning.specs.Doors.{run, ended, batch}
 use Rattle.meaning.specs.Calls.{Calls, stateAfter, Inside, Marked, SameContents, AddedBetween, RefusedOn, RefusedFrom}
-use Rattle.meaning.proofs.Good.{GoodState, Parsed}
+use Rattle.meaning.specs.States.{GoodState, Parsed}
 use Rattle.meaning.proofs.Batches.{AllParsed, ended-good}
 use Rattle.meaning.proofs.Pools.{good-state}
 use Rattle.meaning.proofs.Bindings.{Bound, shut-bound}

@@ -1,10 +1,5 @@
--- Two words of the statements: one thing holds exactly if another does, and a promise that leaves no choice. Assumes nothing.
+-- A promise that leaves no choice. Assumes nothing.
 use mathlib.Core.Path.{_≡_, sym, _∙_}
-
--- A holds exactly if B does
-infix 5 _exactly-if_
-abbrev pub _exactly-if_ : Type 0 → Type 0 → Type 0
-A exactly-if B = (A → B) × (B → A)
 
 -- Every public promise is an equation of the result, final bytes included, with a function of the inputs. Two results that such a promise allows
 -- are equal. DoorsDetermined says so of each door.

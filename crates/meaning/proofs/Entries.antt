@@ -17,7 +17,7 @@ use Rattle.avl.proofs.Answers.{get-sought}
 use Rattle.avl.proofs.Keys.{Told, smaller, equal, greater, told, keys, key-exact}
 use Rattle.avl.proofs.Lists.{list-flip}
 use Rattle.avl.proofs.Sorting.{all-map}
-use Rattle.meaning.specs.Layout.{pack, bit, count, at, following}
+use Rattle.meaning.specs.Layout.{answerShowing, bit, count, at, following}
 use Rattle.meaning.specs.Pool.{Rec, Pool, recAt, treeAt, keyOf, keyAt}
 use Rattle.meaning.specs.Change.{byKeyIn}
 use Rattle.meaning.specs.Command.{answer}
@@ -74,8 +74,7 @@ answer-shows p good code k x = go (recAt p x) refl
     go : (o : Option Rec) → recAt p x ≡ o → answer code k x o ≡ shown code k (live x (p .text) o)
     go none e = refl
     go (some r) e =
-        ap (λ (n : ℕ). pack ((1, code) ∷ (1, k) ∷ (2, x) ∷ (4, r .stamp) ∷ (8, r .key) ∷ (4, r .start) ∷ (2, n) ∷ (2, 0) ∷ []))
-        (sym (length-part (p .text) (r .start) (r .len) (good .recs x r e .name-fits)))
+        ap (answerShowing code k x (r .stamp) (r .key) (r .start)) (sym (length-part (p .text) (r .start) (r .len) (good .recs x r e .name-fits)))
 
 -- ---- any tree, the pool's or not
 

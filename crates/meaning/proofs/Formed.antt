@@ -20,8 +20,8 @@ use Rattle.meaning.specs.Layout.{bit, count, put}
 use Rattle.meaning.specs.Pool.{Rec, Pool, recAt, treeAt, keyOf, keyAt, livesIn}
 use Rattle.meaning.specs.Change.{withTrees, withText, withNext, byKeyIn, putRec, dropRec}
 use Rattle.meaning.specs.WellFormed.{GoodTree, WellFormed}
+use Rattle.meaning.specs.States.{NewKey, Fits}
 use Rattle.meaning.proofs.Facts.{all-counted, count-none, at-put-same, at-put-other, length-put}
-use Rattle.meaning.proofs.Good.{NewKey, Fits}
 use Rattle.meaning.proofs.Members.{slot-in}
 use Rattle.meaning.proofs.Slots.{count-between, Stands, stands, SameKeys, sorted-keys, Around, around-keys, Gap, gap, around-slot, around-into, around-out, around-sorted, add-list, remove-list}
 

@@ -8,7 +8,7 @@ use lib.ListN.{length, getD}
 use Rattle.meaning.specs.Layout.{count, at}
 use Rattle.meaning.specs.Pool.{Rec, Pool, recAt, isLive, liveCount}
 use Rattle.meaning.specs.Change.{freeFrom, freeSlot}
-use Rattle.meaning.proofs.Determined.{_exactly-if_}
+use Rattle.meaning.specs.Refused.{_exactly-if_}
 use Rattle.meaning.proofs.Packed.{count-high}
 
 lower-live : (i : ℕ) (xs : List (Option Rec)) (j : ℕ) → i + j < freeFrom i xs → (r : Rec) × (getD xs j none ≡ some r)

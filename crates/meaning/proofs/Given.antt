@@ -15,7 +15,7 @@ use Rattle.meaning.specs.Command.{isStale, meant, refusal, perform}
 use Rattle.meaning.specs.Doors.{run, ended}
 use Rattle.meaning.specs.Meant.{removing}
 use Rattle.meaning.specs.Calls.{Point, stateAfter, Inside, SameContents, shownSlot, shownStamp, RefusedFrom, Holds, GivenFor}
-use Rattle.meaning.proofs.Good.{Journal, shut, begun, GoodState}
+use Rattle.meaning.specs.States.{Journal, shut, begun, GoodState}
 use Rattle.meaning.proofs.Undoing.{alike-rec}
 use Rattle.meaning.proofs.Formed.{not-both}
 use Rattle.meaning.proofs.Batches.{AllParsed, none-left, and-then}

@@ -16,7 +16,8 @@ use Rattle.meaning.specs.Command.{show, takenOut, takeOut, addNew, silen
 use Rattle.meaning.specs.Doors.{run, ended}
 use Rattle.meaning.specs.WellFormed.{WellFormed}
 use Rattle.meaning.specs.Calls.{Inside, none-more, one-more}
-use Rattle.meaning.proofs.Good.{Addable, Journal, shut, begun, Restored, GoodState, Parsed}
+use Rattle.meaning.specs.States.{Journal, shut, begun, GoodState, Parsed}
+use Rattle.meaning.proofs.Good.{Addable, Restored}
 use Rattle.meaning.proofs.Undoing.{undo-keeps}
 use Rattle.meaning.proofs.Journals.{restored}
 use Rattle.meaning.proofs.Adding.{adding-ok}

@@ -10,9 +10,10 @@ use Rattle.fields.specs.Number.{Bytes}
 use Rattle.meaning.specs.Pool.{Rec, Pool, recAt, treeAt}
 use Rattle.meaning.specs.Change.{withTrees, withText, withNext, freeSlot, putRec, dropRec, newRec, addRec, Change, added, removed, Mark, undo, rollback, opening, noted, rolledBack}
 use Rattle.meaning.specs.WellFormed.{WellFormed}
+use Rattle.meaning.specs.States.{Alike, Since, nothing, then-added, then-removed, Held, Journal, shut, begun}
 use Rattle.meaning.proofs.Changes.{rec-moves, grown, grown-good, add-fits}
 use Rattle.meaning.proofs.Formed.{Formed, formed, formed-as}
-use Rattle.meaning.proofs.Good.{Addable, Alike, Since, nothing, then-added, then-removed, Held, Journal, shut, begun, Restored}
+use Rattle.meaning.proofs.Good.{Addable, Restored}
 use Rattle.meaning.proofs.Undoing.{alike-same, alike-on, alike-rec, undone-formed, undo-keeps}
 
 -- ---- a journal opened and kept

@@ -45,6 +45,7 @@ pub mod EntryChanges
 pub mod Seen
 pub mod Demand2Looks
 pub mod Demand2Handles
+pub mod Removals
 pub mod Demand2Changes
 pub mod Totals
 pub mod Turns

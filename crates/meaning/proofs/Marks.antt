@@ -17,9 +17,10 @@ use Rattle.meaning.specs.Doors.{run, ended}
 use Rattle.meaning.specs.WellFormed.{WellFormed}
 use Rattle.meaning.specs.Meant.{entriesOf}
 use Rattle.meaning.specs.Calls.{Inside, none-more, one-more, SameContents}
+use Rattle.meaning.specs.States.{Journal, begun, GoodState, Parsed}
 use Rattle.meaning.proofs.Facts.{test}
 use Rattle.meaning.proofs.Clauses.{within-is}
-use Rattle.meaning.proofs.Good.{Journal, begun, Restored, GoodState, Parsed}
+use Rattle.meaning.proofs.Good.{Restored}
 use Rattle.meaning.proofs.Journals.{restored}
 use Rattle.meaning.proofs.Tables.{never, passed}
 use Rattle.meaning.proofs.Commands.{afterOp, markedAt, perform-good}

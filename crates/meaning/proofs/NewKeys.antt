@@ -17,16 +17,16 @@ use Rattle.avl.proofs.Sorting.{all-back, all-append, all-map, all-head, Says}
 use Rattle.meaning.specs.Pool.{Pool, treeAt, keyAt}
 use Rattle.meaning.specs.Change.{byKeyIn}
 use Rattle.meaning.specs.Cursor.{beyond}
-use Rattle.meaning.specs.Command.{past}
+use Rattle.meaning.specs.Command.{keyBeyond, past}
 use Rattle.meaning.specs.WellFormed.{WellFormed}
-use Rattle.meaning.proofs.Good.{NewKey}
+use Rattle.meaning.specs.States.{NewKey}
 use Rattle.meaning.proofs.Cursors.{all-slots, tree-counts, tree-sorted}
 use Rattle.meaning.proofs.Members.{Lives}
 use Rattle.meaning.proofs.Neighbours.{all-left, Apart, says-apart, first-says, between-apart}
 
 -- A key that lies past a record is sought on that side of it.
 pub past-says : (p : Pool) (d : Dir) (x k : ℕ) → past p d x k ≡ true → (x ≡ 0 → ⊥) → byKeyIn p k x ≡ toward d
-unfolding past byKeyIn
+unfolding past keyBeyond byKeyIn
 past-says p left zero k h n = absurd (n refl)
 past-says p right zero k h n = absurd (n refl)
 past-says p left (suc x) k h n = side-on left k (keyAt p (suc x)) (ltb-true k (keyAt p (suc x)) h)

@@ -17,8 +17,8 @@ use Rattle.meaning.specs.Command.{perform}
 use Rattle.meaning.specs.Doors.{create, sizesOk, nCommands, batchOk, commands, run, begun, ended, batchRefusal, carriedOut, batch}
 use Rattle.meaning.specs.WellFormed.{WellFormed}
 use Rattle.meaning.specs.Calls.{Calls, no-call, then-batch, then-name, then-check, then-refused-create, Point, stateAfter}
+use Rattle.meaning.specs.States.{GoodState}
 use Rattle.meaning.proofs.Facts.{test}
-use Rattle.meaning.proofs.Good.{GoodState}
 use Rattle.meaning.proofs.Batches.{AllParsed, none-left, and-then, commands-parsed, begun-good, ended-good}
 use Rattle.meaning.proofs.Pools.{sound-pool, good-state}
 use Rattle.meaning.proofs.Histories.{Keeps, With, run-keeps, ended-keeps}

@@ -13,9 +13,10 @@ use Rattle.meaning.specs.Layout.{at}
 use Rattle.avl.specs.Links.{Links}
 use Rattle.meaning.specs.Pool.{Rec, Pool, recAt, treeAt, linksAt, recordRows, bytes, treeIn, readRec, read, textUsed, textOf}
 use Rattle.meaning.specs.WellFormed.{WellFormed}
+use Rattle.meaning.specs.Demands.{RowSays}
 use Rattle.meaning.proofs.Contents.{recOf, length-slots, length-trees, read-free, read-live, rec-read, tree-read}
 use Rattle.meaning.proofs.Packed.{written-header, written-entries, written-records, written-text, rows-many, entry-at}
-use Rattle.meaning.proofs.Rows.{RowSays, live-row, free-row, root-is}
+use Rattle.meaning.proofs.Rows.{live-row, free-row, root-is}
 use Rattle.meaning.proofs.Stored.{tree-back}
 
 -- by cases on a slot, with its equation

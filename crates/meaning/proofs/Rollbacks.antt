@@ -10,7 +10,7 @@ use Rattle.meaning.specs.Cursor.{Command, State, treeOf}
 use Rattle.meaning.specs.Command.{refusal, perform}
 use Rattle.meaning.specs.Doors.{run, ended}
 use Rattle.meaning.specs.Calls.{Point, stateAfter, Inside, Marked, AddedBetween}
-use Rattle.meaning.proofs.Good.{GoodState, Parsed}
+use Rattle.meaning.specs.States.{GoodState, Parsed}
 use Rattle.meaning.proofs.Adding.{adding-ok}
 use Rattle.meaning.proofs.Batches.{AllParsed, and-then}
 use Rattle.meaning.proofs.Histories.{ended-keeps}

@@ -16,6 +16,7 @@ use Rattle.meaning.specs.Layout.{pack, at}
 use Rattle.avl.specs.Links.{Links, unlinked, linksIn}
 use Rattle.meaning.specs.Pool.{Rec, Pool, recAt, treeAt, linksAt, entryBytes, recordBytes, recordRows, rootOf, countOf, keyIn, leftIn, rightIn, parentIn, balanceIn, treeIn, stampIn, startIn, lenIn}
 use Rattle.meaning.specs.WellFormed.{GoodRec, WellFormed}
+use Rattle.meaning.specs.Demands.{RowSays}
 use Rattle.meaning.proofs.Members.{all-node, slot-in, tree-lives, list-short}
 use Rattle.meaning.proofs.Packed.{packed-field, row-at}
 
@@ -61,19 +62,6 @@ links-fit p t x v lo hi =
     (record { left-high = omega arith; right-high = omega arith; parent-high = omega arith; balance-high = omega arith })
 
 -- ---- a live record
-
--- the row b stores the record r with the links k
-pub record RowSays (b : List ℕ) (r : Rec) (k : Links) : Type 0 where
-  pub key-is : keyIn b ≡ r .key
-  pub left-is : leftIn b ≡ k .left
-  pub right-is : rightIn b ≡ k .right
-  pub parent-is : parentIn b ≡ k .parent
-  pub balance-is : balanceIn b ≡ k .balance
-  pub tree-is : treeIn b ≡ r .tree
-  pub stamp-is : stampIn b ≡ r .stamp
-  pub start-is : startIn b ≡ r .start
-  pub len-is : lenIn b ≡ r .len
-  pub rest-is : zeros (drop 26 b) ≡ true
 
 row-says : (p : Pool) (x : ℕ) (r : Rec) → WellFormed p → GoodRec p r → RowSays (recordBytes p x (some r)) r (linksAt p (r .tree) x)
 unfolding recordBytes pack digits zeros keyIn leftIn rightIn parentIn balanceIn treeIn stampIn startIn lenIn

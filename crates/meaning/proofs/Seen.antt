@@ -13,13 +13,14 @@ use Rattle.avl.proofs.Sides.{flip-flip}
 use Rattle.meaning.specs.Layout.{within, span, following}
 use Rattle.meaning.specs.Pool.{Rec, Pool, recAt, treeAt, keyAt}
 use Rattle.meaning.specs.Cursor.{Command, Cursor, nowhere, occupied, vacant, firstEntry, lastEntry, State, kind, beyond, nextOf, cursorTree, standing, treeOf, withKey, ofHandle, atCursor, firstFrom, nextOfHandle, nextOfCursor}
-use Rattle.meaning.specs.Command.{show, takeOut, addNew, op_means_does_then_, ops, opIn, opOf, meant, isStale, stale, isElsewhere, otherTree, notAtRecord, past, noneThere, among, refusal, refused, carriedOut, perform}
+use Rattle.meaning.specs.Command.{show, takeOut, addNew, op_means_does_then_, ops, opIn, opOf, meant, isStale, stale, isElsewhere, otherTree, notAtRecord, keyBeyond, past, noneThere, among, refusal, refused, carriedOut, perform}
 use Rattle.meaning.specs.WellFormed.{WellFormed}
-use Rattle.meaning.specs.Meant.{Entry, entriesOf, front, facing, keyBeyond, slotOf, onSide, ofKey, ofSlot, besideSlot, endOf, ofCursor, besideCursor, sights, sightIn, seen, removing}
+use Rattle.meaning.specs.Meant.{Entry, entriesOf, front, facing, slotOf, onSide, ofKey, ofSlot, besideSlot, endOf, ofCursor, besideCursor, sights, sightIn, seen, removing}
+use Rattle.meaning.specs.States.{CursorOk, GoodState}
+use Rattle.meaning.specs.Demands.{looking, seeing}
 use Rattle.meaning.proofs.Adding.{not-end, end-ok}
 use Rattle.meaning.proofs.Among.{among-all}
 use Rattle.meaning.proofs.Entries.{liveEntry, entry-zero, entry-live, entry-slot, entry-key}
-use Rattle.meaning.proofs.Good.{CursorOk, GoodState}
 use Rattle.meaning.proofs.Members.{Lives, slot-in}
 use Rattle.meaning.proofs.Sights.{Sees, end-alone, sees-key, sees-end, sees-beside, sees-slot, sees-standing, sees-next}
 use Rattle.meaning.proofs.Tables.{never, Passed, passed, meant-is}
@@ -41,19 +42,11 @@ slot-seen {p} (suc x) s =
 
 -- A key lies past a slot exactly if it lies on that side of its entry.
 pub past-seen : {p : Pool} {t : ℕ} (d : Dir) (x k : ℕ) {e : Option Entry} → Sees p t x e → past p d x k ≡ onSide d k e
-unfolding past onSide keyBeyond
-past-seen {p} d zero k s = zero-past d ∙ ap (onSide d k) (sym (entry-zero p) ∙ s .is)
-  where
-    zero-past : (d : Dir) → past p d 0 k ≡ true
-    zero-past left = refl
-    zero-past right = refl
+unfolding past onSide
+past-seen {p} d zero k s = ap (onSide d k) (sym (entry-zero p) ∙ s .is)
 past-seen {p} d (suc x) k s =
     let h = s .there (λ e. omega arith) in
-    by-key d ∙ ap (λ (j : ℕ). keyBeyond d j k) (sym (entry-key p (suc x))) ∙ ap (onSide d k) (sym (entry-live p h) ∙ s .is)
-  where
-    by-key : (d : Dir) → past p d (suc x) k ≡ keyBeyond d (keyAt p (suc x)) k
-    by-key left = refl
-    by-key right = refl
+    ap (λ (j : ℕ). keyBeyond d j k) (sym (entry-key p (suc x))) ∙ ap (onSide d k) (sym (entry-live p h) ∙ s .is)
 
 -- At an end of its tree the cursor has nothing beside it on that side, and stands at the first entry from there.
 pub end-seen : (e : Dir) (p : Pool) → WellFormed p → (k : Cursor) → CursorOk p k → kind k ≡ pick e 3 4
@@ -75,10 +68,6 @@ end-seen e p good k fits h =
     next (lastEntry t x) h = refl
 
 -- ---- what each op sees
-
--- the ops that see a record, but for op 4, whose slot may be anything
-abbrev pub seeing : ℕ → Bool
-seeing n = among ((2, 3) ∷ (5, 8) ∷ (10, 15) ∷ (21, 23) ∷ []) n
 
 -- the tree that op n works on
 abbrev treeFor : ℕ → State → Command → ℕ
@@ -152,10 +141,6 @@ module _ (w : Option Pool) (s : State) (c : Command) (g : GoodState w s) where
   finds h z = among-all (FindsAt s c) ((3, 4) ∷ (21, 23) ∷ []) (c .op) h finds-all (passed s c z)
 
 -- ---- what each op does
-
--- the ops that only look
-abbrev pub looking : ℕ → Bool
-looking n = among ((2, 2) ∷ (5, 8) ∷ (10, 15) ∷ []) n
 
 -- They are among those that see one.
 pub looking-sees : (n : ℕ) → looking n ≡ true → seeing n ≡ true

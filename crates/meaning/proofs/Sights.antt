@@ -23,12 +23,13 @@ use Rattle.meaning.specs.Layout.{bit, following}
 use Rattle.meaning.specs.Pool.{Pool, treeAt, keyAt}
 use Rattle.meaning.specs.Change.{byKeyIn}
 use Rattle.meaning.specs.Cursor.{Cursor, nowhere, occupied, vacant, firstEntry, lastEntry, Command, cursorTree, standing, beyond, nextOf}
+use Rattle.meaning.specs.Command.{keyBeyond}
 use Rattle.meaning.specs.WellFormed.{WellFormed}
-use Rattle.meaning.specs.Meant.{Entry, entriesOf, lookup, inSlot, front, nextTo, facing, keyBeyond, firstPast, isNone, besideCursor}
+use Rattle.meaning.specs.Meant.{Entry, entriesOf, lookup, inSlot, front, nextTo, facing, firstPast, isNone, besideCursor}
+use Rattle.meaning.specs.States.{CursorOk, at-vacant}
 use Rattle.meaning.proofs.Entries.{entryAt, liveEntry, entry-zero, entry-live, entry-key, any-live, any-sorted, facing-list, front-first, next-following, slot-listed, slot-unlisted, lookup-get}
 use Rattle.meaning.proofs.Cursors.{lives-is, lives-tree, standing-lives}
 use Rattle.meaning.proofs.Facts.{count-none}
-use Rattle.meaning.proofs.Good.{CursorOk, at-vacant}
 use Rattle.meaning.proofs.Members.{Lives}
 use Rattle.meaning.proofs.Neighbours.{all-first, all-following, all-from, all-reverse}
 

@@ -5,7 +5,7 @@ use mathlib.Core.Option.{Option, none, some}
 use mathlib.Core.Path.{_≡_, refl, _∙_}
 use Prim.Native.Nat.{ℕ, suc}
 use lib.Dec.{eqb}
-use lib.ListN.{length, length-map}
+use lib.ListN.{length-map}
 use borrow.Author.Tests.{eqb-true}
 use Rattle.avl.specs.Tree.{leaf}
 use Rattle.avl.specs.Order.{nil, more}
@@ -15,14 +15,9 @@ use Rattle.meaning.specs.Change.{withTrees, withText, withNext, freeSlot
 use Rattle.meaning.specs.Cursor.{Command, State, treeOf}
 use Rattle.meaning.specs.Command.{show, takenOut, takeOut, addNew, silent, openMark, rollBack, commit, reset, op_means_does_then_, ops, opIn, opOf, refusal, refused, carriedOut, perform}
 use Rattle.meaning.specs.Doors.{run, ended}
+use Rattle.meaning.specs.Demands.{SameSizes}
 use Rattle.meaning.proofs.Facts.{length-put}
 use Rattle.meaning.proofs.Tables.{at-every-op}
-
--- q has as many slots and trees as p, and as much room for text
-pub record SameSizes (p q : Pool) : Type 0 where
-  pub slots : length (q .slots) ≡ length (p .slots)
-  pub trees : length (q .trees) ≡ length (p .trees)
-  pub size : q .size ≡ p .size
 
 same : (p : Pool) → SameSizes p p
 same p = record { slots = refl; trees = refl; size = refl }

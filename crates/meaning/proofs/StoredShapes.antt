@@ -29,16 +29,17 @@ use Rattle.meaning.proofs.Batches.{AllParsed, and-then, ended-good}
 use Rattle.meaning.proofs.Cursors.{lives-tree}
 use Rattle.meaning.proofs.Demand2.{count-of-tree, links-of-record, root-of-tree}
 use Rattle.meaning.proofs.Demand2Places.{inserted-there, beside-there, removed-there}
-use Rattle.meaning.proofs.Demand2Shapes.{besideOps, beside-ops}
+use Rattle.meaning.proofs.Demand2Shapes.{beside-ops}
 use Rattle.meaning.proofs.Entries.{entryAt}
 use Rattle.meaning.proofs.Facts.{bit-one, length-rows}
-use Rattle.meaning.proofs.Good.{Parsed}
 use Rattle.meaning.proofs.Members.{lives}
 use Rattle.meaning.proofs.Points.{batch-stored, point-good, point-parsed, point-leaves, point-on, state-on}
 use Rattle.meaning.proofs.Pools.{sound-pool, good-state}
 use Rattle.meaning.proofs.Seen.{finds}
 use Rattle.meaning.proofs.Sizes.{batch-sizes}
 use Rattle.meaning.proofs.ToldShuts.{shut-at}
+use Rattle.meaning.specs.Demands.{besideOps}
+use Rattle.meaning.specs.States.{Parsed}
 
 -- Every tree of a sound pool is stored as the tree that its bytes are read as.
 pub stored-tree : (pool : List ℕ) → Bytes pool → sound pool ≡ true → (t : ℕ) → 1 ≤ t → t ≤ nTrees pool → StoredTree pool t (treeAt (read pool) t)

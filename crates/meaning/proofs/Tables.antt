@@ -3,7 +3,7 @@
 use mathlib.Core.Bool.{Bool, true, false, not, _&&_, cond}
 use mathlib.Core.List.{List, [], _∷_}
 use mathlib.Core.Path.{_≡_, refl, ap}
-use Prim.Native.Nat.{ℕ, zero, suc, _+_, _≤_}
+use Prim.Native.Nat.{ℕ, zero, suc, _≤_}
 use native.Mathlib.Omega.{arith}
 use lib.Dec.{leb, eqb}
 use lib.ListN.{getD}
@@ -13,6 +13,7 @@ use Rattle.avl.specs.Order.{All}
 use Rattle.meaning.specs.Layout.{bit, within, every, count, span}
 use Rattle.meaning.specs.Cursor.{Command, State, cursorTree, treeOf}
 use Rattle.meaning.specs.Command.{always, badTree, noCursor, notAtRecord, notKind, marked, unmarked, badName, badSlot, stale, otherTree, present, notBetween, notTheEntrys, noneThere, noSlot, noText, noStamp, among, unknown, adding, Refusal, refuse_at_if_, refusals, firstOf, refusal, lastOp, ops, opIn, opOf, meant}
+use Rattle.meaning.specs.Refused.{placeIn, rowOf, atCursorRow, atRecordRow, atVacantRow, atLastRow, atFirstRow, keyBeforeRow, keyBehindRow, keyVacantRow}
 use Rattle.meaning.proofs.Facts.{test, both, every-span}
 use Rattle.meaning.proofs.Clauses.{within-is}
 use Rattle.meaning.proofs.Neighbours.{counted}
@@ -30,40 +31,6 @@ noRow = refuse 0 at (λ _. false) if always
 -- row i of a table, counted from 0
 unfoldable pub rowIn : List Refusal → ℕ → Refusal
 rowIn rs i = getD rs i noRow
-
--- where a table has the number n first
-unfoldable pub placeIn : List Refusal → ℕ → ℕ
-placeIn [] n = 0
-placeIn (r ∷ rs) n = let rest = placeIn rs n in cond (eqb (r .number) n) 0 (suc rest)
-
-abbrev pub rowOf : ℕ → ℕ
-rowOf n = placeIn refusals n
-
--- the rows of BAD_CURSOR, by what the cursor must be at
-abbrev pub atCursorRow : ℕ
-atCursorRow = rowOf 12
-
-abbrev pub atRecordRow : ℕ
-atRecordRow = rowOf 12 + 1
-
-abbrev pub atVacantRow : ℕ
-atVacantRow = rowOf 12 + 2
-
-abbrev pub atLastRow : ℕ
-atLastRow = rowOf 12 + 3
-
-abbrev pub atFirstRow : ℕ
-atFirstRow = rowOf 12 + 4
-
--- and of ORDER, by where the key must be
-abbrev pub keyBeforeRow : ℕ
-keyBeforeRow = rowOf 18
-
-abbrev pub keyBehindRow : ℕ
-keyBehindRow = rowOf 18 + 1
-
-abbrev pub keyVacantRow : ℕ
-keyVacantRow = rowOf 18 + 2
 
 module _ (n : ℕ) (s : State) (c : Command) where
   -- where no row refuses, the first one does not, and none after it does

@@ -11,8 +11,8 @@ use Rattle.meaning.specs.Calls.{Calls, Point, stateAfter, Marked, SameCo
 use Rattle.meaning.specs.Told.{codeAt, ToldGoneOn, ToldGoneFrom, ToldMark, ToldAdded}
 use Rattle.meaning.proofs.Answers.{answer-told, code-told, gone-told, told-gone}
 use Rattle.meaning.proofs.Demand3.{rollback-is-done, added-refused, rollback-gives-back-bytes, end-gives-back-bytes, added-refused-later}
-use Rattle.meaning.proofs.Determined.{_exactly-if_}
 use Rattle.meaning.proofs.Points.{point-on}
+use Rattle.meaning.specs.Refused.{_exactly-if_}
 
 -- ---- refused is told
 

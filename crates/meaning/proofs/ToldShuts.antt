@@ -22,10 +22,10 @@ use Rattle.meaning.proofs.Commands.{afterOp, markedAt, perform-good}
 use Rattle.meaning.proofs.Doing.{performed, answer-shows, does-take, rolls-back, commits}
 use Rattle.meaning.proofs.Facts.{test}
 use Rattle.meaning.proofs.Formed.{not-both}
-use Rattle.meaning.proofs.Good.{Journal, shut, begun as opened-at, GoodState, Parsed}
 use Rattle.meaning.proofs.Points.{Anything, parsed-parts, point-stored, point-good, point-parsed, state-on}
 use Rattle.meaning.proofs.Pools.{sound-pool}
 use Rattle.meaning.proofs.Seen.{finds}
+use Rattle.meaning.specs.States.{Journal, shut, begun as opened-at, GoodState, Parsed}
 
 -- ---- a record removed
 

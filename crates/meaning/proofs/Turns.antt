@@ -16,9 +16,9 @@ use Rattle.meaning.specs.Pool.{Rec}
 use Rattle.meaning.specs.Cursor.{Command, State, kind}
 use Rattle.meaning.specs.Command.{opOf, refusal, afterRefusal, answer, refused, carriedOut, perform}
 use Rattle.meaning.specs.Doors.{nCommands, command, commands, run}
+use Rattle.meaning.specs.States.{Parsed}
 use Rattle.meaning.proofs.Batches.{AllParsed, none-left, and-then}
 use Rattle.meaning.proofs.Facts.{length-pack, length-rows}
-use Rattle.meaning.proofs.Good.{Parsed}
 
 length-answer : (code k x : ℕ) (o : Option Rec) → length (answer code k x o) ≡ 24
 unfolding answer

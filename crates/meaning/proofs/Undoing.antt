@@ -14,9 +14,9 @@ use Rattle.avl.proofs.Sorting.{all-map}
 use Rattle.meaning.specs.Layout.{at, put}
 use Rattle.meaning.specs.Pool.{Rec, Pool, recAt, treeAt, keyAt, livesIn}
 use Rattle.meaning.specs.Change.{withTrees, byKeyIn, putRec, dropRec, Change, added, removed, undoAdd, undo}
+use Rattle.meaning.specs.States.{Alike, Since, nothing, then-added, then-removed}
 use Rattle.meaning.proofs.Facts.{length-put}
 use Rattle.meaning.proofs.Formed.{Formed, formed, Room, room, live-key, absent, same-keys, put-edited, put-gap, put-split, formed-put-list, formed-put, drop-edited, drop-stands, drop-around, drop-split, formed-drop-list, formed-drop}
-use Rattle.meaning.proofs.Good.{Alike, Since, nothing, then-added, then-removed}
 use Rattle.meaning.proofs.Members.{slot-in}
 use Rattle.meaning.proofs.Slots.{Around, around-keys, around-new, around-into, around-out}
 

@@ -20,13 +20,14 @@ use Rattle.avl.specs.Links.{Links}
 use Rattle.meaning.specs.Pool.{Rec, Pool, recAt, treeAt, keyOf, keyAt, isLive, livesIn, liveCount, linksAt, entryBytes, recordRows, bytes, keyIn, balanceIn, treeIn, stampIn, startIn, lenIn, records, read}
 use Rattle.meaning.specs.Sound.{headerOk, entryOk, liveOk, recordOk, textOk, reached, rising, treeOk, treesOk, sound}
 use Rattle.meaning.specs.WellFormed.{GoodRec, WellFormed}
+use Rattle.meaning.specs.Demands.{RowSays}
 use Rattle.meaning.proofs.Facts.{both-true, at-every, span-every}
 use Rattle.meaning.proofs.Clauses.{is-balanced, is-rising}
 use Rattle.meaning.proofs.Contents.{live-read}
 use Rattle.meaning.proofs.Members.{all-node, Lives, tree-lives, tree-depth}
 use Rattle.meaning.proofs.Packed.{rows-many, entry-at, bytes-length, written-header, written-entries, written-records, written-text}
 use Rattle.meaning.proofs.ReadBack.{on-slot, free-tree, slots-back}
-use Rattle.meaning.proofs.Rows.{Small, links-fit, RowSays, live-row, free-row, root-is, count-is, entry-zeros}
+use Rattle.meaning.proofs.Rows.{Small, links-fit, live-row, free-row, root-is, count-is, entry-zeros}
 use Rattle.meaning.proofs.Stored.{hangs-linked, tree-hangs, tree-back}
 
 -- the clauses of a list hold, one after the other

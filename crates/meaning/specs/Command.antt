@@ -6,7 +6,7 @@ use Prim.Native.Nat.{ℕ, zero, suc, _+_}
 use lib.Dec.{ltb, eqb}
 use lib.ListN.{length}
 use Rattle.avl.specs.Tree.{Dir, left, right, flip}
-use Rattle.meaning.specs.Layout.{pack, within}
+use Rattle.meaning.specs.Layout.{answerShowing, answerBare, within}
 use Rattle.meaning.specs.Pool.{Rec, Pool, recAt, keyAt}
 use Rattle.meaning.specs.Change.{Mark, added, removed, freeSlot, addRec, dropRec, emptied, opening, noted, rolledBack}
 use Rattle.meaning.specs.Cursor.{Command, Cursor, nowhere, State, kind, standing, entryKey, treeOf, Meant, noRecord, withKey, ofHandle, atCursor, nearest, firstFrom, nextOfHandle, nextOfCursor, Then, gone, kept, atShown, whereItStood, atFirst, atLast, entered}
@@ -168,11 +168,15 @@ otherTree s c = isElsewhere (c .tree) (recAt (s .pool) (c .slot))
 unfoldable pub present : Test
 present s c = not (eqb (withKey s c) 0)
 
+-- key j lies beyond key k in the direction d
+unfoldable pub keyBeyond : Dir → ℕ → ℕ → Bool
+keyBeyond left k j = ltb j k
+keyBeyond right k j = ltb k j
+
 -- the key k lies strictly on side d of the record x, if there is one
 unfoldable pub past : Pool → Dir → ℕ → ℕ → Bool
 past p d zero k = true
-past p left (suc x) k = ltb k (keyAt p (suc x))
-past p right (suc x) k = ltb (keyAt p (suc x)) k
+past p d (suc x) k = keyBeyond d (keyAt p (suc x)) k
 
 -- the key is not strictly between the cursor's record and the record on side d of it, if any
 unfoldable pub notBetween : Dir → Test
@@ -197,7 +201,7 @@ noText s c = ltb (s .pool .size) (length (s .pool .text) + length (c .name))
 unfoldable pub noStamp : Test
 noStamp s c = eqb (s .pool .next) 4_294_967_295
 
--- ---- the refusals: document 01, "Numbers returned", in the order of its tests
+-- ---- the refusals: docs/REFERENCE.md, section 8, in the order of its tests
 
 -- the ops within these bounds
 unfoldable pub among : List (ℕ × ℕ) → ℕ → Bool
@@ -258,11 +262,10 @@ afterRefusal o e k = cond (within 12 25 o && not (within 14 15 o && eqb e 19 || 
 
 -- ---- one command
 
--- code, cursor kind, and the record shown: slot, stamp, key, name start and length
+-- code, cursor kind, and the record r in slot x, if one is shown
 unfoldable pub answer : ℕ → ℕ → ℕ → Option Rec → List ℕ
-answer code k x none = pack ((1, code) ∷ (1, k) ∷ (22, 0) ∷ [])
-answer code k x (some r) =
-    pack ((1, code) ∷ (1, k) ∷ (2, x) ∷ (4, r .stamp) ∷ (8, r .key) ∷ (4, r .start) ∷ (2, r .len) ∷ (2, 0) ∷ [])
+answer code k x none = answerBare code k
+answer code k x (some r) = answerShowing code k x (r .stamp) (r .key) (r .start) (r .len)
 
 pub record Performed : Type 0 where
   pub state : State
@@ -288,5 +291,5 @@ perform s c =
 
 -- to unfold this is to unfold all of this file: for claims that compute
 unfoldable pub opened : Unit {0}
-unfolding show takenOut takeOut addNew silent openMark rollBack commit reset op_means_does_then_ ops opIn opOf meant always badTree noCursor notAtRecord notKind isOpen marked unmarked badName badSlot isStale stale isElsewhere otherTree present past notBetween isOther notTheEntrys noneThere noSlot noText noStamp among unknown adding refuse_at_if_ refusals firstOf refusal afterRefusal answer refused carriedOut perform
+unfolding show takenOut takeOut addNew silent openMark rollBack commit reset op_means_does_then_ ops opIn opOf meant always badTree noCursor notAtRecord notKind isOpen marked unmarked badName badSlot isStale stale isElsewhere otherTree present keyBeyond past notBetween isOther notTheEntrys noneThere noSlot noText noStamp among unknown adding refuse_at_if_ refusals firstOf refusal afterRefusal answer refused carriedOut perform
 opened = tt

@@ -1,4 +1,4 @@
--- One cursor, as document 01 has it under that heading, and which record a command means. Assumes nothing.
+-- The cursor, as docs/REFERENCE.md has it in section 7, and which record a command means. Assumes nothing.
 use mathlib.Core.Bool.{Bool, cond}
 use mathlib.Core.List.{List}
 use mathlib.Core.Option.{Option, none, some}

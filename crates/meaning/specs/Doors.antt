@@ -10,7 +10,7 @@ use Rattle.fields.specs.Number.{getLE}
 use Rattle.fields.specs.Part.{part}
 use Rattle.avl.specs.Tree.{leaf}
 use Rattle.meaning.specs.Layout.{rows, within, all}
-use Rattle.meaning.specs.Pool.{Rec, Pool, recAt, bytes, read, textOf}
+use Rattle.meaning.specs.Pool.{Rec, Pool, recAt, bytes, read, textOf, nSlots, nTrees}
 use Rattle.meaning.specs.Sound.{sound}
 use Rattle.meaning.specs.Change.{rolledBack}
 use Rattle.meaning.specs.Cursor.{Command, nowhere, State}
@@ -129,7 +129,27 @@ name b t x g =
     let answered = cond (eqb (refusal s (removal t x g)) 0) found [] in
     cond (sound b) answered []
 
+-- where that part stands: the place of its first byte, counted from the start of the pool, and its length; 0 and 0 where the handle is refused
+pub record Place : Type 0 where
+  pub at : ℕ
+  pub len : ℕ
+
+abbrev pub noPlace : Place
+noPlace = record { at = 0; len = 0 }
+
+-- a record's name stands in the text, which follows the records
+unfoldable pub placeIn : List ℕ → Option Rec → Place
+placeIn b none = noPlace
+placeIn b (some r) = record { at = 32 + 8 * nTrees b + 32 * nSlots b + r .start; len = r .len }
+
+unfoldable pub placeOf : List ℕ → ℕ → ℕ → ℕ → Place
+placeOf b t x g =
+    let s = begun (read b) in
+    let found = placeIn b (recAt (s .pool) x) in
+    let answered = cond (eqb (refusal s (removal t x g)) 0) found noPlace in
+    cond (sound b) answered noPlace
+
 -- to unfold this is to unfold all of this file: for claims that compute
 unfoldable pub opened : Unit {0}
-unfolding fresh sizesOk create check nCommands namesLength batchOk command commands run begun ended batchRefusal carriedOut batch removal nameOf name
+unfolding fresh sizesOk create check nCommands namesLength batchOk command commands run begun ended batchRefusal carriedOut batch removal nameOf name placeIn placeOf
 opened = tt

@@ -1,4 +1,4 @@
--- Rows of fields and lists counted from 1: the words in which the pool's layout is written. Assumes nothing.
+-- Rows of fields and lists counted from 1: the words in which the pool's layout is written; and an answer's bytes. Assumes nothing.
 use mathlib.Core.Bool.{Bool, true, false, _&&_, cond}
 use mathlib.Core.List.{List, [], _∷_, _++_}
 use Prim.Native.Nat.{ℕ, zero, suc, _+_}
@@ -11,6 +11,14 @@ use Rattle.avl.specs.Order.{first}
 unfoldable pub pack : List (ℕ × ℕ) → List ℕ
 pack [] = []
 pack (f ∷ fs) = digits (f .0) (f .1) ++ pack fs
+
+-- an answer's bytes: code, cursor kind, and the slot, stamp, key, name start and length of what is shown; or zeros
+abbrev pub answerShowing : ℕ → ℕ → ℕ → ℕ → ℕ → ℕ → ℕ → List ℕ
+answerShowing code k x stamp key start len =
+    pack ((1, code) ∷ (1, k) ∷ (2, x) ∷ (4, stamp) ∷ (8, key) ∷ (4, start) ∷ (2, len) ∷ (2, 0) ∷ [])
+
+abbrev pub answerBare : ℕ → ℕ → List ℕ
+answerBare code k = pack ((1, code) ∷ (1, k) ∷ (22, 0) ∷ [])
 
 -- bytes cut into n rows of `width` each
 unfoldable pub rows : ℕ → ℕ → List ℕ → List (List ℕ)

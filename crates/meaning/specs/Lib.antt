@@ -8,6 +8,9 @@ pub mod Doors
 pub mod Listing
 pub mod WellFormed
 pub mod Meant
+pub mod States
+pub mod Refused
+pub mod Demands
 pub mod Calls
 pub mod Told
 pub mod Places

@@ -1,11 +1,11 @@
--- The listing program's text. Assumes nothing.
+-- The listing program's text, and what the function that writes it leaves and answers. Assumes nothing.
 use mathlib.Core.Bool.{cond}
 use mathlib.Core.List.{List, [], _∷_, _++_, map}
 use mathlib.Core.Option.{Option, none, some}
 use Prim.Native.Nat.{ℕ, zero, suc, _+_, _/_, _%_}
 use lib.Dec.{ltb}
 use lib.ListN.{length}
-use Rattle.fields.specs.Part.{part}
+use Rattle.fields.specs.Part.{part, splice}
 use Rattle.avl.specs.Tree.{left, Tree, list}
 use Rattle.meaning.specs.Layout.{concat}
 use Rattle.meaning.specs.Pool.{Rec, Pool, recAt, liveCount, linksAt, read}
@@ -57,7 +57,11 @@ listing b =
     let lines = firstLine p ++ treeLines p 1 (p .trees) in
     cond (sound b) lines (114 ∷ 101 ∷ 102 ∷ 117 ∷ 115 ∷ 101 ∷ 100 ∷ 32 ∷ 49 ∷ 10 ∷ [])
 
+-- the text at the start of the buffer, and its length; nothing and 0 if the buffer has fewer bytes than the longest listing may need
+unfoldable pub listed : List ℕ → List ℕ → List ℕ × ℕ
+listed b o = cond (ltb (length o) 655_360) (o, 0) (splice o 0 (listing b), length (listing b))
+
 -- to unfold this is to unfold all of this file: for claims that compute
 unfoldable pub opened : Unit {0}
-unfolding decimal hex numbers lineOf treeLines firstLine listing
+unfolding decimal hex numbers lineOf treeLines firstLine listing listed
 opened = tt

@@ -7,11 +7,11 @@ use lib.Dec.{ltb, eqb}
 use lib.ListN.{length}
 use Rattle.fields.specs.Part.{part}
 use Rattle.avl.specs.Tree.{Dir, left, right, list}
-use Rattle.meaning.specs.Layout.{pack}
+use Rattle.meaning.specs.Layout.{answerShowing, answerBare}
 use Rattle.meaning.specs.Pool.{Rec, Pool, recAt, treeAt}
 use Rattle.meaning.specs.Change.{freeSlot}
 use Rattle.meaning.specs.Cursor.{Command, Cursor, nowhere, occupied, vacant, firstEntry, lastEntry, standing, cursorTree}
-use Rattle.meaning.specs.Command.{among}
+use Rattle.meaning.specs.Command.{keyBeyond, among}
 
 -- a record as a reader sees it: its key, its handle (slot and stamp), and its name's place and bytes
 pub record Entry : Type 0 where
@@ -56,11 +56,6 @@ unfoldable pub facing : Dir → List Entry → List Entry
 facing right l = l
 facing left l = reverse l
 
--- key j lies beyond key k in the direction d
-unfoldable pub keyBeyond : Dir → ℕ → ℕ → Bool
-keyBeyond left k j = ltb j k
-keyBeyond right k j = ltb k j
-
 -- the first entry whose key lies beyond k in the direction d
 unfoldable pub firstPast : Dir → ℕ → List Entry → Option Entry
 firstPast d k [] = none
@@ -103,11 +98,10 @@ total p t (suc n) = length (entriesOf p t) + total p (suc t) n
 
 -- ---- what an answer shows
 
--- code, cursor kind, and an entry: slot, stamp, key, name start and length; zeros for none
+-- the answer's bytes with an entry, if there is one
 unfoldable pub shown : ℕ → ℕ → Option Entry → List ℕ
-shown code k none = pack ((1, code) ∷ (1, k) ∷ (22, 0) ∷ [])
-shown code k (some e) =
-    pack ((1, code) ∷ (1, k) ∷ (2, e .slot) ∷ (4, e .stamp) ∷ (8, e .key) ∷ (4, e .start) ∷ (2, length (e .name)) ∷ (2, 0) ∷ [])
+shown code k none = answerBare code k
+shown code k (some e) = answerShowing code k (e .slot) (e .stamp) (e .key) (e .start) (length (e .name))
 
 -- what Name hands back of an entry for the stamp g: its name if the stamp is the entry's
 unfoldable pub nameIn : ℕ → Option Entry → List ℕ
@@ -169,5 +163,5 @@ seen p k c = sightIn sights (c .op) (entriesOf p) k c
 
 -- to unfold this is to unfold all of this file: for claims that compute
 unfoldable pub opened : Unit {0}
-unfolding entryFor entriesOf lookup inSlot front nextTo facing keyBeyond firstPast isNone slotOf onSide insertByKey without newEntry total shown nameIn ofNone ofKey ofSlot besideSlot endOf ofCursor besideCursor sights sightIn seen
+unfolding entryFor entriesOf lookup inSlot front nextTo facing firstPast isNone slotOf onSide insertByKey without newEntry total shown nameIn ofNone ofKey ofSlot besideSlot endOf ofCursor besideCursor sights sightIn seen
 opened = tt

@@ -1,4 +1,4 @@
--- The pool: a state, and its bytes as document 01 lays them out under "The pool". Assumes nothing.
+-- The pool: a state, and its bytes as docs/REFERENCE.md lays them out. Assumes nothing.
 use mathlib.Core.Bool.{Bool, true, false, cond}
 use mathlib.Core.List.{List, [], _∷_, map}
 use mathlib.Core.Option.{Option, none, some}

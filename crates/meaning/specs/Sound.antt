@@ -1,4 +1,4 @@
--- When a pool is sound: the clauses of document 01, in its order, each over the header, an entry, a record, a link or the text.
+-- When a pool is sound: the clauses of docs/REFERENCE.md, in its order, each over the header, an entry, a record, a link or the text.
 -- Assumes nothing.
 use mathlib.Core.Bool.{Bool, true, false, not, _&&_, cond, Bool·beq}
 use mathlib.Core.List.{List, [], _∷_, map}

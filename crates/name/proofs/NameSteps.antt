@@ -1,7 +1,7 @@
 -- The answers of the name door, of its place and of its tests, each from what was read and found on the way to it. Assumes nothing.
 use mathlib.Core.Bool.{Bool, true, false, not, _&&_, and-assoc}
 use mathlib.Core.List.{List, []}
-use mathlib.Core.Path.{_≡_, refl, sym, ap, ap₂, _∙_}
+use mathlib.Core.Path.{_≡_, refl, sym, ap, ap₂, _∙_, subst}
 use Prim.Native.Nat.{ℕ, zero, suc, _+_, _*_, _-_, _≤_}
 use native.Mathlib.Omega.{arith}
 use lib.Dec.{eqb, leb}
@@ -12,12 +12,11 @@ use Rattle.fields.specs.Number.{getLE}
 use Rattle.meaning.specs.Layout.{within, at}
 use Rattle.meaning.specs.Pool.{nSlots, nTrees, records, treeIn, stampIn, startIn, lenIn}
 use Rattle.meaning.specs.Sound.{sound}
-use Rattle.meaning.specs.Doors.{name}
+use Rattle.meaning.specs.Doors.{name, Place, noPlace, placeOf}
 use Rattle.meaning.proofs.Facts.{both, rows-at}
 use Rattle.meaning.proofs.Clauses.{within-is, clauses}
 use Rattle.fields.proofs.Spans.{get-part}
-use Rattle.name.specs.Name.{matches, handleOk, noPlace, placeOf}
-use Rattle.name.specs.declared.name.Place.{Place}
+use Rattle.name.specs.Name.{matches, handleOk}
 use Rattle.name.proofs.Naming.{place-is, place-fits, place-low, name-at}
 
 -- ---- a record against a handle
@@ -146,11 +145,11 @@ module _ (b : List ℕ) (t x g : ℕ) {s : Bool} (se : s ≡ sound b) where
 
 -- ---- the name
 
-module _ (b : List ℕ) (t x g : ℕ) {p : Place} (pe : p ≡ placeOf b t x g) where
-  pub name-inside : p .at + p .len ≤ length b
-  name-inside = rw pe (place-fits b t x g)
+module _ (b : List ℕ) (t x g : ℕ) {a n : ℕ} (pe : _≡_ {A = Place} (record { at = a; len = n }) (placeOf b t x g)) where
+  pub name-inside : a + n ≤ length b
+  name-inside = subst (λ (q : Place). q .at + q .len ≤ length b) (sym pe) (place-fits b t x g)
 
-  pub name-part : take (p .at + p .len - p .at) (drop (p .at) b) ≡ name b t x g
+  pub name-part : take (a + n - a) (drop a b) ≡ name b t x g
   name-part =
-      let w : p .at + p .len - p .at ≡ p .len = omega arith in
-      ap (λ (k : ℕ). take k (drop (p .at) b)) w ∙ ap (λ (q : Place). take (q .len) (drop (q .at) b)) pe ∙ name-at b t x g
+      let w : a + n - a ≡ n = omega arith in
+      ap (λ (k : ℕ). take k (drop a b)) w ∙ ap (λ (q : Place). take (q .len) (drop (q .at) b)) pe ∙ name-at b t x g

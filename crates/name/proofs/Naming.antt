@@ -17,12 +17,11 @@ use Rattle.meaning.specs.Pool.{Rec, Pool, recAt, records, nSlots, nTrees, textU
 use Rattle.meaning.specs.Sound.{sound}
 use Rattle.meaning.specs.Command.{refusal, isStale, isElsewhere}
 use Rattle.meaning.specs.Command
-use Rattle.meaning.specs.Doors.{begun, removal, nameOf, name}
+use Rattle.meaning.specs.Doors.{begun, removal, nameOf, name, Place, noPlace, placeIn, placeOf}
 use Rattle.meaning.proofs.Facts.{test}
 use Rattle.meaning.proofs.Clauses.{RowFacts, clauses}
 use Rattle.meaning.proofs.Contents.{length-slots, length-trees, rec-read, row-of}
-use Rattle.name.specs.Name.{matches, handleOk, noPlace, placeIn, placeOf}
-use Rattle.name.specs.declared.name.Place.{Place}
+use Rattle.name.specs.Name.{matches, handleOk}
 
 -- the tests that op 4 meets
 pub removal-refused : (p : Pool) (t x g : ℕ) → refusal (begun p) (removal t x g)

@@ -3,8 +3,8 @@ ghost use mathlib.Core.Path.{_≡_};
 ghost use Prim.Native.Nat.{_+_, _*_, _≤_};
 ghost use lib.ListN.{length};
 ghost use Rattle.meaning.specs.Pool.{nSlots, nTrees};
-ghost use Rattle.meaning.specs.Doors.{name};
-ghost use Rattle.name.specs.Name.{matches, handleOk, placeOf};
+ghost use Rattle.meaning.specs.Doors.{name, placeOf};
+ghost use Rattle.name.specs.Name.{matches, handleOk};
 use format::entry;
 use format::header;
 use format::record;
@@ -52,7 +52,7 @@ fn handle_ok(pool: &[u8], t: u8, x: u16, g: u32) -> bool
 
 // Where the name stands, or 0 and 0 if the pool is unsound or op 4 would refuse the handle.
 pub fn place_of(pool: &[u8], t: u8, x: u16, g: u32) -> Place
-    ensures { λ r. ⌜ r ≡ placeOf (now (pool .entry)) t x g ⌝ }
+    ensures { λ r. ⌜ record { at = r .at; len = r .len } ≡ placeOf (now (pool .entry)) t x g ⌝ }
 {
     if !is_sound(pool) {
         return Place::NONE;

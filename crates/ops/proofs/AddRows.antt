@@ -15,7 +15,7 @@ use Rattle.meaning.specs.Pool.{Pool}
 use Rattle.meaning.specs.Change.{freeSlot}
 use Rattle.meaning.specs.Cursor.{Command, Cursor, nowhere, State, cursorTree, treeOf, noRecord, Then, gone, atShown, whereItStood, atFirst, atLast}
 use Rattle.meaning.specs.Command.{addNew, op_means_does_then_, ops, opIn, always, badTree, notAtRecord, notKind, badName, present, notBetween, notTheEntrys, noSlot, noText, noStamp, among, unknown, adding, refuse_at_if_, refusals, firstOf, afterRefusal, perform}
-use Rattle.meaning.proofs.Good.{GoodState, Parsed}
+use Rattle.meaning.specs.States.{GoodState, Parsed}
 use Rattle.slots.specs.Image.{bodyOf, headOf}
 use Rattle.slots.specs.Head.{treeN}
 use Rattle.cursor.specs.Cursor.{afterN}

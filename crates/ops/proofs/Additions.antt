@@ -20,8 +20,9 @@ use Rattle.meaning.specs.Change.{withTrees, withText, withNext, byKeyIn, freeSl
 use Rattle.meaning.specs.Cursor.{Command, Cursor, State, kind, treeOf, noRecord, Then}
 use Rattle.meaning.specs.Command.{addNew, Op, op_means_does_then_, opOf, badName, adding, refusal, answer, carriedOut, perform}
 use Rattle.meaning.specs.WellFormed.{WellFormed}
+use Rattle.meaning.specs.States.{GoodState, Parsed}
 use Rattle.meaning.proofs.Facts.{both, at-put-same}
-use Rattle.meaning.proofs.Good.{Addable, GoodState, Parsed}
+use Rattle.meaning.proofs.Good.{Addable}
 use Rattle.meaning.proofs.Changes.{free-slot}
 use Rattle.meaning.proofs.Tables.{passed}
 use Rattle.meaning.proofs.Adding.{adding-ok}

@@ -22,8 +22,8 @@ use Rattle.meaning.specs.Pool.{Pool, treeAt}
 use Rattle.meaning.specs.Change.{byKeyIn}
 use Rattle.meaning.specs.Cursor.{Cursor, nowhere, occupied, vacant, firstEntry, lastEntry, State, cursorTree, standing, beyond, nextOf}
 use Rattle.meaning.specs.WellFormed.{WellFormed}
+use Rattle.meaning.specs.States.{CursorOk, at-nowhere, at-occupied, at-vacant, at-first, at-last}
 use Rattle.meaning.proofs.Facts.{test}
-use Rattle.meaning.proofs.Good.{CursorOk, at-nowhere, at-occupied, at-vacant, at-first, at-last}
 use Rattle.meaning.proofs.Members.{Lives}
 use Rattle.meaning.proofs.Neighbours.{all-first, all-following}
 use Rattle.meaning.proofs.Cursors.{lives-is, all-live, all-slots, found-lives, standing-lives, next-lives}

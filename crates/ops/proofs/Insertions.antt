@@ -20,8 +20,8 @@ use Rattle.meaning.specs.Pool.{Pool, treeAt}
 use Rattle.meaning.specs.Change.{byKeyIn, freeSlot}
 use Rattle.meaning.specs.Cursor.{Command, Cursor, nowhere, occupied, vacant, firstEntry, lastEntry, State, kind, cursorTree, standing, entryKey, treeOf, withKey, gone, atShown, whereItStood, atFirst, atLast}
 use Rattle.meaning.specs.Command.{badTree, notAtRecord, notKind, present, past, notBetween, isOther, notTheEntrys, perform}
+use Rattle.meaning.specs.States.{CursorOk, at-nowhere, at-occupied, at-vacant, at-first, at-last, GoodState, Parsed}
 use Rattle.meaning.proofs.Facts.{test}
-use Rattle.meaning.proofs.Good.{CursorOk, at-nowhere, at-occupied, at-vacant, at-first, at-last, GoodState, Parsed}
 use Rattle.meaning.proofs.Cursors.{lives-is, lives-tree, standing-lives, standing-next}
 use Rattle.meaning.proofs.Tables.{never}
 use Rattle.meaning.proofs.Adding.{tree-ok, order-ok, kind-ok, AtEnd, end-ok}

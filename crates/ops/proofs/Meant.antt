@@ -20,7 +20,7 @@ use Rattle.meaning.specs.Change.{byKeyIn}
 use Rattle.meaning.specs.Cursor.{Cursor, vacant, State, cursorTree, standing, withKey, atCursor, entryOf, orNearest, nearest, firstFrom, nextOfHandle, nextOfCursor, enteredAt, entered}
 use Rattle.meaning.specs.Command.{badTree}
 use Rattle.meaning.specs.WellFormed.{WellFormed}
-use Rattle.meaning.proofs.Good.{CursorOk, at-vacant}
+use Rattle.meaning.specs.States.{CursorOk, at-vacant}
 use Rattle.meaning.proofs.Members.{Lives, lives}
 use Rattle.meaning.proofs.Cursors.{found-lives, standing-lives, next-lives}
 use Rattle.meaning.proofs.Adding.{tree-ok}

@@ -14,10 +14,10 @@ use Rattle.avl.proofs.Sorting.{all-map}
 use Rattle.meaning.specs.Layout.{following}
 use Rattle.meaning.specs.Pool.{Pool, treeAt, keyAt}
 use Rattle.meaning.specs.Cursor.{Command, Cursor, nowhere, occupied, vacant, firstEntry, lastEntry, State, kind, cursorTree, standing, beyond, nextOf, nextOfCursor}
-use Rattle.meaning.specs.Command.{past, notBetween}
+use Rattle.meaning.specs.Command.{keyBeyond, past, notBetween}
 use Rattle.meaning.specs.WellFormed.{WellFormed}
+use Rattle.meaning.specs.States.{CursorOk}
 use Rattle.meaning.proofs.Facts.{test}
-use Rattle.meaning.proofs.Good.{CursorOk}
 use Rattle.meaning.proofs.Members.{Lives}
 use Rattle.meaning.proofs.Neighbours.{counted, all-following, following-after}
 use Rattle.meaning.proofs.Cursors.{all-live, all-slots, tree-counts, tree-sorted, standing-lives, next-lives}
@@ -30,7 +30,7 @@ use Rattle.cursor.specs.Tests.{pastN, betweenN}
 
 -- a key lies on a side of a record, or of none, if it does so in the pool
 past-image : (p : Pool) → WellFormed p → (d : Dir) (x k : ℕ) → x ≤ length (p .slots) → pastN (bodyOf p) d x k ≡ past p d x k
-unfolding pastN past
+unfolding pastN past keyBeyond
 past-image p good left zero k h = refl
 past-image p good right zero k h = refl
 past-image p good left (suc x) k h =

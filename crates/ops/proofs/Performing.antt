@@ -15,9 +15,9 @@ use Rattle.meaning.specs.Layout.{span, within}
 use Rattle.meaning.specs.Pool.{Pool}
 use Rattle.meaning.specs.Cursor.{nowhere, State, cursorTree}
 use Rattle.meaning.specs.Command.{lastOp, Performed, perform}
+use Rattle.meaning.specs.States.{GoodState, Parsed}
 use Rattle.meaning.proofs.Among.{all-span}
 use Rattle.meaning.proofs.Facts.{test}
-use Rattle.meaning.proofs.Good.{GoodState, Parsed}
 use Rattle.slots.specs.Image.{bodyOf}
 use Rattle.slots.specs.Record.{recordN}
 use Rattle.cursor.specs.Tests.{aimedN}

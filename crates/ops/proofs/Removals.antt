@@ -13,7 +13,7 @@ use Rattle.meaning.specs.Layout.{within}
 use Rattle.meaning.specs.Pool.{Pool, recAt, livesIn}
 use Rattle.meaning.specs.Cursor.{Command, occupied, State, cursorTree, standing, treeOf, ofHandle, nextOfCursor, gone, whereItStood}
 use Rattle.meaning.specs.Command.{takeOut, notAtRecord, perform}
-use Rattle.meaning.proofs.Good.{GoodState}
+use Rattle.meaning.specs.States.{GoodState}
 use Rattle.meaning.proofs.Members.{lives}
 use Rattle.slots.specs.Head.{treeN}
 use Rattle.slots.specs.Image.{bodyOf, headOf}

@@ -14,7 +14,7 @@ use Rattle.meaning.specs.Layout.{within}
 use Rattle.meaning.specs.Pool.{Pool}
 use Rattle.meaning.specs.Cursor.{Command, Cursor, nowhere, occupied, firstEntry, lastEntry, State, kind, cursorTree, treeOf, Meant, withKey, firstFrom, nextOfHandle, nextOfCursor, Then, gone, kept, atShown, atFirst, atLast}
 use Rattle.meaning.specs.Command.{show, badTree, noCursor, perform}
-use Rattle.meaning.proofs.Good.{GoodState, Parsed}
+use Rattle.meaning.specs.States.{GoodState, Parsed}
 use Rattle.slots.specs.Head.{treeN}
 use Rattle.slots.specs.Image.{bodyOf, headOf}
 use Rattle.slots.specs.declared.head.Numbers.{Numbers}

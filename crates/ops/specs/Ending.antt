@@ -1,3 +1,4 @@
+-- A model: what the code computes. No door's promise cites it, and it need not be believed.
 -- The ways in which a command ends: it shows a record, takes one out, or adds one; or it is refused with a number e. Assumes nothing.
 use mathlib.Core.Bool.{cond}
 use mathlib.Core.List.{List}

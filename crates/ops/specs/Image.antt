@@ -1,3 +1,4 @@
+-- A model: the form in which the code holds what `meaning` and `avl` speak of. No door's promise cites it, and it need not be believed.
 -- What a batch works on, read off a state of `meaning`, and what a command of the code stands for there. Assumes nothing.
 use mathlib.Core.Bool.{true}
 use mathlib.Core.List.{List}

@@ -1,3 +1,4 @@
+-- A model: what the code computes. No door's promise cites it, and it need not be believed.
 -- The commands op by op, on the body, the head's numbers, the cursor and the command's tree u: which record, the first test that is met, and how
 -- the command ends. Assumes nothing.
 use mathlib.Core.Bool.{Bool, true, false, cond, not}

@@ -24,10 +24,11 @@ use Rattle.meaning.specs.Layout.{bit, count, put}
 use Rattle.meaning.specs.Pool.{Rec, Pool, recAt, treeAt, keyAt, isLive, livesIn, liveCount}
 use Rattle.meaning.specs.Change.{withTrees, withText, withNext, byKeyIn, freeFrom, freeSlot, putRec, dropRec, newRec, addRec}
 use Rattle.meaning.specs.WellFormed.{WellFormed}
+use Rattle.meaning.specs.States.{Fits}
 use Rattle.meaning.proofs.Changes.{put-good, drop-good, grown, grown-good, add-fits}
 use Rattle.meaning.proofs.Facts.{length-put}
 use Rattle.meaning.proofs.Formed.{Edited, formed, room, put-edited, put-gap, put-split, drop-edited, drop-stands, drop-split}
-use Rattle.meaning.proofs.Good.{Fits, Addable}
+use Rattle.meaning.proofs.Good.{Addable}
 use Rattle.meaning.proofs.Members.{list-short, slot-in}
 use Rattle.meaning.proofs.Packed.{count-high}
 use Rattle.meaning.proofs.Stored.{links-out}

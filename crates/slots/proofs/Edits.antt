@@ -26,9 +26,9 @@ use Rattle.meaning.specs.Layout.{bit}
 use Rattle.meaning.specs.Pool.{Rec, Pool, recAt, treeAt, keyAt, livesIn, linksAt}
 use Rattle.meaning.specs.Change.{byKeyIn}
 use Rattle.meaning.specs.WellFormed.{WellFormed}
+use Rattle.meaning.specs.States.{NewKey}
 use Rattle.meaning.proofs.Facts.{test, both-true}
 use Rattle.meaning.proofs.Formed.{Edited, formed, live-key, drop-stands, drop-around}
-use Rattle.meaning.proofs.Good.{NewKey}
 use Rattle.meaning.proofs.Members.{slot-in}
 use Rattle.slots.specs.Image.{textBytes, bodyOf, cargoOf, elsewhere}
 use Rattle.slots.proofs.Bodies.{times-lives, tree-fits, body-holding}

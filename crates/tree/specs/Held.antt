@@ -1,3 +1,4 @@
+-- A model: the form in which the code holds what `meaning` and `avl` speak of. No door's promise cites it, and it need not be believed.
 -- A tree of `avl` held by records: its links written over record bytes. What the bytes hold besides is left as it is. Assumes nothing.
 use mathlib.Core.Bool.{Bool, true, false, _&&_}
 use mathlib.Core.List.{List}

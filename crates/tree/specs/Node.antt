@@ -1,3 +1,4 @@
+-- A model: what the code computes. No door's promise cites it, and it need not be believed.
 -- A record's links in the record bytes: slot s, counted from 1, is the 32 bytes from 32 (s - 1) on. What lies outside, and slot 0, reads 0 and
 -- takes no store. Assumes nothing.
 use mathlib.Core.Bool.{Bool, true, false, cond}

@@ -1,3 +1,4 @@
+-- A model: what the code computes. No door's promise cites it, and it need not be believed.
 -- `_remove` and `_post_remove` on record bytes and a tree. A record with two children: its neighbour is taken out first and then put in its
 -- place, which leaves the links that the Rust's swap leaves. Assumes nothing.
 use mathlib.Core.Bool.{cond}

@@ -1,3 +1,4 @@
+-- A model: the form in which the code holds what `meaning` and `avl` speak of. No door's promise cites it, and it need not be believed.
 -- The records of a pool as bytes: for each slot its key, its links, and what else it holds. Assumes nothing.
 use mathlib.Core.List.{List, [], _++_}
 use Prim.Native.Nat.{ℕ, zero, suc}

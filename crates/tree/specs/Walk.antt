@@ -1,3 +1,4 @@
+-- A model: what the code computes. No door's promise cites it, and it need not be believed.
 -- bottom_child and _walk_dir on record bytes, with the height as the limit of every loop. Assumes nothing.
 use mathlib.Core.Bool.{cond}
 use mathlib.Core.List.{List}

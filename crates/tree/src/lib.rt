@@ -4,8 +4,8 @@
 // out from its parent. A tree goes in and comes back by value; several trees share the slots.
 //
 // Every function is total and has no `requires`: a slot that is 0 or out of range reads as 0 and takes
-// no store. Each promise is an equation with a model of specs/ on the record bytes. What the models
-// do to records that hold a tree of `avl` is proofs/Records.antt.
+// no store. Each promise of a function that the crates above call is an equation with a model of specs/ on
+// the record bytes. What the models do to records that hold a tree of `avl` is proofs/Records.antt.
 //
 // | Rust                                | here                         | difference                                        |
 // |-------------------------------------|------------------------------|---------------------------------------------------|

@@ -7,9 +7,8 @@ use native.Mathlib.Omega.{arith}
 use lib.Dec.{eqb, ltb}
 use lib.ListN.{length, take, drop}
 use Rattle.meaning.specs.Sound.{sound}
-use Rattle.meaning.specs.Doors.{nCommands, batchOk, batchRefusal, carriedOut, batch, name}
+use Rattle.meaning.specs.Doors.{nCommands, batchOk, batchRefusal, carriedOut, batch, name, placeOf}
 use Rattle.meaning.proofs.Facts.{test}
-use Rattle.name.specs.Name.{placeOf}
 use Rattle.name.proofs.Naming.{place-low, name-at}
 use Rattle.zimatuno.specs.Abi.{batchInC, nameInC}
 

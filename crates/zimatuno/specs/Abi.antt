@@ -1,8 +1,7 @@
 -- What the doors return to C, which gives back one number: two numbers packed into it. Assumes nothing.
 use mathlib.Core.List.{List}
 use Prim.Native.Nat.{ℕ, _+_, _*_}
-use Rattle.meaning.specs.Doors.{batch}
-use Rattle.name.specs.Name.{placeOf}
+use Rattle.meaning.specs.Doors.{batch, placeOf}
 
 -- the code in bits 0 to 7, the number answered in bits 8 to 23; and the pool and the answers as they are left
 unfoldable pub batchInC : List ℕ → List ℕ → List ℕ → ℕ × (List ℕ × List ℕ)

@@ -2,7 +2,7 @@
 use borrow.Author.Needs.{needs}
 use mathlib.Core.Path.{ap}
 use Prim.Native.Nat.{_+_, _*_}
-use Rattle.name.specs.declared.name.Place.{Place}
+use Rattle.meaning.specs.Doors.{Place}
 use Rattle.zimatuno.specs.Abi.{nameInC}
 use Rattle.zimatuno.proofs.zt_name.Statement.{statement}
 use Rattle.zimatuno.proofs.zt_name.Tie as tie

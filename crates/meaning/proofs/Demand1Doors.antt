@@ -21,76 +21,76 @@ choose : {A : Type 0} {b v : Bool} (x y : A) → b ≡ v → cond b x y ≡ cond
 choose x y e = ap (λ (b : Bool). cond b x y) e
 
 -- A refused batch returns its number and 0 answered, and gives back every byte of the pool and of the answers.
-pub refused-batch : (b w a : List ℕ) → (batchRefusal b w a ≡ 0 → ⊥)
-    → batch b w a ≡ record { code = batchRefusal b w a; answered = 0; pool = b; answers = a }
+pub refused-batch : (pool request answers : List ℕ) → (batchRefusal pool request answers ≡ 0 → ⊥)
+    → batch pool request answers ≡ record { code = batchRefusal pool request answers; answered = 0; pool = pool; answers = answers }
 unfolding batch
-refused-batch b w a n = choose _ _ (ne-eqb (batchRefusal b w a) 0 n)
+refused-batch pool request answers n = choose _ _ (ne-eqb (batchRefusal pool request answers) 0 n)
 
 -- the batch's three tests in their order, over their outcomes
 chosen : Bool → Bool → Bool → ℕ
 chosen ok short good = cond ok (cond short 3 (cond good 0 1)) 2
 
-module _ (b w a : List ℕ) where
-  by-tests : {x y z : Bool} → batchOk w ≡ x → ltb (length a) (24 * nCommands w) ≡ y → sound b ≡ z → batchRefusal b w a ≡ chosen x y z
+module _ (pool request answers : List ℕ) where
+  by-tests : {x y z : Bool} → batchOk request ≡ x → ltb (length answers) (24 * nCommands request) ≡ y → sound pool ≡ z → batchRefusal pool request answers ≡ chosen x y z
   unfolding batchRefusal chosen
   by-tests e f g = rw (e, f, g)
 
   -- what is to be shown of a number: by the eight outcomes of the tests
-  eight : {P : Type 0} → ((x y z : Bool) → batchOk w ≡ x → ltb (length a) (24 * nCommands w) ≡ y → sound b ≡ z → batchRefusal b w a ≡ chosen x y z → P) → P
-  eight f = f (batchOk w) (ltb (length a) (24 * nCommands w)) (sound b) refl refl refl (by-tests refl refl refl)
+  eight : {P : Type 0} → ((x y z : Bool) → batchOk request ≡ x → ltb (length answers) (24 * nCommands request) ≡ y → sound pool ≡ z → batchRefusal pool request answers ≡ chosen x y z → P) → P
+  eight f = f (batchOk request) (ltb (length answers) (24 * nCommands request)) (sound pool) refl refl refl (by-tests refl refl refl)
 
   -- BAD_BATCH, 2: exactly if the batch's header or length is wrong.
-  pub bad-batch : (batchRefusal b w a ≡ 2) exactly-if (batchOk w ≡ false)
+  pub bad-batch : (batchRefusal pool request answers ≡ 2) exactly-if (batchOk request ≡ false)
   unfolding chosen
   bad-batch = (λ h. eight (λ x y z e f g i. go x y z e (sym i ∙ h)), λ h. by-tests h refl refl)
     where
-      go : (x y z : Bool) → batchOk w ≡ x → chosen x y z ≡ 2 → batchOk w ≡ false
+      go : (x y z : Bool) → batchOk request ≡ x → chosen x y z ≡ 2 → batchOk request ≡ false
       go true true z e h = absurd (omega arith)
       go true false true e h = absurd (omega arith)
       go true false false e h = absurd (omega arith)
       go false y z e h = e
 
   -- BAD_OUT, 3: exactly if the batch is right and the answers are shorter than 24 bytes for each command.
-  pub bad-out : (batchRefusal b w a ≡ 3) exactly-if ((batchOk w ≡ true) × (length a < 24 * nCommands w))
+  pub bad-out : (batchRefusal pool request answers ≡ 3) exactly-if ((batchOk request ≡ true) × (length answers < 24 * nCommands request))
   unfolding chosen
   bad-out = (
     λ h. eight (λ x y z e f g i. go x y z e f (sym i ∙ h)),
-    λ h. by-tests (h .0) (lt-ltb (length a) (24 * nCommands w) (h .1)) refl,
+    λ h. by-tests (h .0) (lt-ltb (length answers) (24 * nCommands request) (h .1)) refl,
   )
     where
-      go : (x y z : Bool) → batchOk w ≡ x → ltb (length a) (24 * nCommands w) ≡ y → chosen x y z ≡ 3 → (batchOk w ≡ true) × (length a < 24 * nCommands w)
-      go true true z e f h = (e, ltb-true (length a) (24 * nCommands w) f)
+      go : (x y z : Bool) → batchOk request ≡ x → ltb (length answers) (24 * nCommands request) ≡ y → chosen x y z ≡ 3 → (batchOk request ≡ true) × (length answers < 24 * nCommands request)
+      go true true z e f h = (e, ltb-true (length answers) (24 * nCommands request) f)
       go true false true e f h = absurd (omega arith)
       go true false false e f h = absurd (omega arith)
       go false y z e f h = absurd (omega arith)
 
   -- DAMAGED, 1: exactly if the batch is right, the answers are long enough, and the pool is not sound.
-  pub damaged : (batchRefusal b w a ≡ 1) exactly-if ((batchOk w ≡ true) × (24 * nCommands w ≤ length a) × (sound b ≡ false))
+  pub damaged : (batchRefusal pool request answers ≡ 1) exactly-if ((batchOk request ≡ true) × (24 * nCommands request ≤ length answers) × (sound pool ≡ false))
   unfolding chosen
   damaged = (
     λ h. eight (λ x y z e f g i. go x y z e f g (sym i ∙ h)),
-    λ h. by-tests (h .0) (le-ltb (length a) (24 * nCommands w) (h .1)) (h .2),
+    λ h. by-tests (h .0) (le-ltb (length answers) (24 * nCommands request) (h .1)) (h .2),
   )
     where
-      go : (x y z : Bool) → batchOk w ≡ x → ltb (length a) (24 * nCommands w) ≡ y → sound b ≡ z → chosen x y z ≡ 1
-          → (batchOk w ≡ true) × (24 * nCommands w ≤ length a) × (sound b ≡ false)
+      go : (x y z : Bool) → batchOk request ≡ x → ltb (length answers) (24 * nCommands request) ≡ y → sound pool ≡ z → chosen x y z ≡ 1
+          → (batchOk request ≡ true) × (24 * nCommands request ≤ length answers) × (sound pool ≡ false)
       go true true z e f g h = absurd (omega arith)
       go true false true e f g h = absurd (omega arith)
-      go true false false e f g h = (e, ltb-false (length a) (24 * nCommands w) f, g)
+      go true false false e f g h = (e, ltb-false (length answers) (24 * nCommands request) f, g)
       go false y z e f g h = absurd (omega arith)
 
   -- A batch is carried out exactly if it is right, the answers are long enough, and the pool is sound.
-  pub batch-allowed : (batchRefusal b w a ≡ 0) exactly-if ((batchOk w ≡ true) × (24 * nCommands w ≤ length a) × (sound b ≡ true))
+  pub batch-allowed : (batchRefusal pool request answers ≡ 0) exactly-if ((batchOk request ≡ true) × (24 * nCommands request ≤ length answers) × (sound pool ≡ true))
   unfolding chosen
   batch-allowed = (
     λ h. eight (λ x y z e f g i. go x y z e f g (sym i ∙ h)),
-    λ h. by-tests (h .0) (le-ltb (length a) (24 * nCommands w) (h .1)) (h .2),
+    λ h. by-tests (h .0) (le-ltb (length answers) (24 * nCommands request) (h .1)) (h .2),
   )
     where
-      go : (x y z : Bool) → batchOk w ≡ x → ltb (length a) (24 * nCommands w) ≡ y → sound b ≡ z → chosen x y z ≡ 0
-          → (batchOk w ≡ true) × (24 * nCommands w ≤ length a) × (sound b ≡ true)
+      go : (x y z : Bool) → batchOk request ≡ x → ltb (length answers) (24 * nCommands request) ≡ y → sound pool ≡ z → chosen x y z ≡ 0
+          → (batchOk request ≡ true) × (24 * nCommands request ≤ length answers) × (sound pool ≡ true)
       go true true z e f g h = absurd (omega arith)
-      go true false true e f g h = (e, ltb-false (length a) (24 * nCommands w) f, g)
+      go true false true e f g h = (e, ltb-false (length answers) (24 * nCommands request) f, g)
       go true false false e f g h = absurd (omega arith)
       go false y z e f g h = absurd (omega arith)
 
@@ -114,22 +114,22 @@ unfolding create
 create-allowed N T X buffer h = choose _ _ h
 
 -- Check returns 0 exactly if the pool is sound,
-pub check-sound : (b : List ℕ) → (check b ≡ 0) exactly-if (sound b ≡ true)
+pub check-sound : (pool : List ℕ) → (check pool ≡ 0) exactly-if (sound pool ≡ true)
 unfolding check
-check-sound b = (λ h. test (sound b) (λ t. t) (λ t. absurd (omega (arith, h, choose {A = ℕ} 0 1 t))), λ t. choose 0 1 t)
+check-sound pool = (λ h. test (sound pool) (λ t. t) (λ t. absurd (omega (arith, h, choose {A = ℕ} 0 1 t))), λ t. choose 0 1 t)
 
 -- and DAMAGED, 1, exactly if it is not.
-pub check-damaged : (b : List ℕ) → (check b ≡ 1) exactly-if (sound b ≡ false)
+pub check-damaged : (pool : List ℕ) → (check pool ≡ 1) exactly-if (sound pool ≡ false)
 unfolding check
-check-damaged b = (λ h. test (sound b) (λ t. absurd (omega (arith, h, choose {A = ℕ} 0 1 t))) (λ t. t), λ t. choose 0 1 t)
+check-damaged pool = (λ h. test (sound pool) (λ t. absurd (omega (arith, h, choose {A = ℕ} 0 1 t))) (λ t. t), λ t. choose 0 1 t)
 
 -- Name gives back an empty part if the pool is not sound,
-pub name-damaged : (b : List ℕ) (t x g : ℕ) → sound b ≡ false → name b t x g ≡ []
+pub name-damaged : (pool : List ℕ) (tree slot stamp : ℕ) → sound pool ≡ false → name pool tree slot stamp ≡ []
 unfolding name
-name-damaged b t x g h = choose _ _ h
+name-damaged pool tree slot stamp h = choose _ _ h
 
 -- and if op 4 would refuse the tree and handle.
-pub name-refused : (b : List ℕ) (t x g : ℕ) → (refusal (begun (read b)) (removal t x g) ≡ 0 → ⊥) → name b t x g ≡ []
+pub name-refused : (pool : List ℕ) (tree slot stamp : ℕ) → (refusal (begun (read pool)) (removal tree slot stamp) ≡ 0 → ⊥) → name pool tree slot stamp ≡ []
 unfolding name
-name-refused b t x g n =
-    test (sound b) (λ h. choose _ _ h ∙ choose _ _ (ne-eqb (refusal (begun (read b)) (removal t x g)) 0 n)) (λ h. choose _ _ h)
+name-refused pool tree slot stamp n =
+    test (sound pool) (λ h. choose _ _ h ∙ choose _ _ (ne-eqb (refusal (begun (read pool)) (removal tree slot stamp)) 0 n)) (λ h. choose _ _ h)

@@ -35,30 +35,30 @@ use Rattle.meaning.proofs.Seen.{done-is, finds, removing-takes, adding-
 -- ---- adding
 
 -- the pool after one of the ops that add
-adds-pool : (w : Option Pool) (s : State) (c : Command) → Parsed c → GoodState w s → adding (c .op) ≡ true → refusal s c ≡ 0
+adds-pool : (origin : Option Pool) (s : State) (c : Command) → Parsed c → GoodState origin s → adding (c .op) ≡ true → refusal s c ≡ 0
     → perform s c .state .pool ≡ addRec (treeOf s c) (c .key) (c .name) (s .pool)
 unfolding carriedOut addNew adding
-adds-pool w s c parsed g h z =
+adds-pool origin s c parsed g h z =
     let o = opOf c in
     ap (λ (y : Performed). y .state .pool) (done-is s c z) ∙ ap (λ (f : Act). f s c (o .means s c) .pool) (adding-adds c h)
 
 -- Ops 1, 16 to 20, 24 and 25 add the command's key and name, in the lowest free slot and with the next stamp, to their tree.
-pub adds : (w : Option Pool) (s : State) (c : Command) → Parsed c → GoodState w s → adding (c .op) ≡ true → refusal s c ≡ 0
+pub adds : (origin : Option Pool) (s : State) (c : Command) → Parsed c → GoodState origin s → adding (c .op) ≡ true → refusal s c ≡ 0
     → Added s c (treeOf s c) (newEntry (s .pool) (c .key) (c .name))
 unfolding carriedOut addNew newEntry adding
-adds w s c parsed g h z =
+adds origin s c parsed g h z =
     let o = opOf c in
     let p = s .pool in
     let t = treeOf s c in
     let k = c .key in
     let n = c .name in
     let good = g .pool in
-    let a = adding-ok w s c parsed g h z in
+    let a = adding-ok origin s c parsed g h z in
     let q = done-is s c z in
     let d : o .does s c (o .means s c) ≡ addNew s c (o .means s c) = ap (λ (f : Act). f s c (o .means s c)) (adding-adds c h) in
-    let pool = adds-pool w s c parsed g h z in
+    let pool = adds-pool origin s c parsed g h z in
     let now = ap (λ (y : Performed). y .state .cursor) q in
-    let kept = perform-good w s c parsed g .pool in
+    let kept = perform-good origin s c parsed g .pool in
     let j = kind (carriedOut o s c .state .cursor) in
     record {
       list = ap (λ (y : Pool). entriesOf y t) pool ∙ add-entries p t k n good a;
@@ -79,13 +79,13 @@ adds w s c parsed g h z =
 
 -- ---- removing
 
-module _ (w : Option Pool) (s : State) (c : Command) (g : GoodState w s) where
+module _ (origin : Option Pool) (s : State) (c : Command) (g : GoodState origin s) where
   -- Ops 3, 4 and 21 to 23 remove the entry that the table `sights` gives for them over the lists.
   pub removes : removing (c .op) ≡ true → refusal s c ≡ 0 → (e : Entry) × (seen (s .pool) (s .cursor) c ≡ some e) × Removed s c (treeOf s c) e
   removes h z =
-      let f = finds w s c g h z in
+      let f = finds origin s c g h z in
       let l = f .0 in
-      (entryAt (s .pool) (meant s c), sym (f .1) ∙ entry-live (s .pool) l, removed-it w s c g (treeOf s c) (meant s c) l refl (removing-takes c h) z)
+      (entryAt (s .pool) (meant s c), sym (f .1) ∙ entry-live (s .pool) l, removed-it origin s c g (treeOf s c) (meant s c) l refl (removing-takes c h) z)
 
 -- ---- a get after a done add
 
@@ -100,18 +100,18 @@ lookup-insert e (f ∷ l) h = go (ltb (e .key) (f .key)) (eqb (f .key) (e .key))
     go false true i n k = absurd (not-both (some f) refl n)
     go false false i n k = ap (λ (c : Bool). cond c (some f) (lookup (e .key) (insertByKey e l))) i ∙ k n
 
-get-passes : (w : Option Pool) (s : State) (c : Command) → Parsed c → GoodState w s → adding (c .op) ≡ true → refusal s c ≡ 0
+get-passes : (origin : Option Pool) (s : State) (c : Command) → Parsed c → GoodState origin s → adding (c .op) ≡ true → refusal s c ≡ 0
     → (get : Command) → get .op ≡ 2 → get .tree ≡ treeOf s c → isNone (seen (perform s c .state .pool) (perform s c .state .cursor) get) ≡ false
     → refusal (perform s c .state) get ≡ 0
 unfolding firstMet testsIn testsOf badTree within among isNone
-get-passes w s c parsed g h z get i j n =
+get-passes origin s c parsed g h z get i j n =
     let after = perform s c .state in
-    let a = adding-ok w s c parsed g h z in
-    let good = perform-good w s c parsed g in
+    let a = adding-ok origin s c parsed g h z in
+    let good = perform-good origin s c parsed g in
     let T = length (after .pool .trees) in
-    let there : noneThere after get ≡ false = none-is (markedAt w s c) after get good (rw i) ∙ n in
+    let there : noneThere after get ≡ false = none-is (markedAt origin s c) after get good (rw i) ∙ n in
     let many : T ≡ length (s .pool .trees) =
-    ap (λ (y : Pool). length (y .trees)) (adds-pool w s c parsed g h z) ∙ add-trees (s .pool) (treeOf s c) (c .key) (c .name) (g .pool) a in
+    ap (λ (y : Pool). length (y .trees)) (adds-pool origin s c parsed g h z) ∙ add-trees (s .pool) (treeOf s c) (c .key) (c .name) (g .pool) a in
     let tree : badTree after get ≡ false =
     ap not (both-true (leb 1 (get .tree)) (leb (get .tree) T) (le-leb 1 (get .tree) (omega (arith, j, a .tree-low)))
     (le-leb (get .tree) T (omega (arith, j, a .tree-high, many)))) in
@@ -124,24 +124,24 @@ unfolding opOf ops opIn op_means_does_then_ gone kind
 get-leaves s get i x = ap (λ (n : ℕ). kind (opIn ops n .then s get x)) i
 
 -- A get after a done add shows the record that was added: it is not refused, and its answer is that entry.
-pub get-after-add : (w : Option Pool) (s : State) (c : Command) → Parsed c → GoodState w s → adding (c .op) ≡ true → refusal s c ≡ 0
+pub get-after-add : (origin : Option Pool) (s : State) (c : Command) → Parsed c → GoodState origin s → adding (c .op) ≡ true → refusal s c ≡ 0
     → (get : Command) → get .op ≡ 2 → get .tree ≡ treeOf s c → get .key ≡ c .key
     → (refusal (perform s c .state) get ≡ 0) × (perform (perform s c .state) get .answer ≡ shown 0 0 (some (newEntry (s .pool) (c .key) (c .name))))
 unfolding seen sights sightIn ofKey entriesOf newEntry within among isNone
-get-after-add w s c parsed g h z get i j k =
+get-after-add origin s c parsed g h z get i j k =
     let e = newEntry (s .pool) (c .key) (c .name) in
     let t = treeOf s c in
-    let a = adding-ok w s c parsed g h z in
-    let m = adds w s c parsed g h z in
+    let a = adding-ok origin s c parsed g h z in
+    let m = adds origin s c parsed g h z in
     let after = perform s c .state in
-    let good = perform-good w s c parsed g in
+    let good = perform-good origin s c parsed g in
     let shows : seen (after .pool) (after .cursor) get ≡ some e =
     ap (λ (n : ℕ). sightIn sights n (entriesOf (after .pool)) (after .cursor) get) i
     ∙ ap₂ (λ (x u : ℕ). lookup x (entriesOf (after .pool) u)) k j
     ∙ ap (lookup (c .key)) (m .list)
     ∙ lookup-insert e (entriesOf (s .pool) t) (lookup-absent (s .pool) (c .key) (list left (treeAt (s .pool) t)) (a .new)) in
-    let passes : refusal after get ≡ 0 = get-passes w s c parsed g h z get i j (ap isNone shows) in
-    let l = looks (markedAt w s c) after get good (rw i) passes in
+    let passes : refusal after get ≡ 0 = get-passes origin s c parsed g h z get i j (ap isNone shows) in
+    let l = looks (markedAt origin s c) after get good (rw i) passes in
     (passes, l .answer ∙ ap₂ (λ (x : ℕ) (y : Option Entry). shown 0 x y) (ap kind (l .cursor) ∙ get-leaves after get i _) shows)
 
 -- ---- marks, commit, rollback and reset

@@ -62,14 +62,14 @@ codes-opened : Unit {0}
 unfolding span within among firstMet testsIn testsOf
 codes-opened = tt
 
-module _ (w : Option Pool) (s : State) (c : Command) (g : GoodState w s) where
+module _ (origin : Option Pool) (s : State) (c : Command) (g : GoodState origin s) where
   -- the tests of op n are these two, the second that no entry is seen
   abbrev TwoTests : (State → Command → Bool) → ℕ → ℕ → Type 0
   TwoTests f e n =
       (firstMet (testsIn testsOf n) s c ≡ cond (f s c) e (cond (noneThere s c) 19 0)) × (seeing n ≡ true) × (within 1 lastOp n ≡ true)
 
   two-tests : (f : State → Command → Bool) (e : ℕ) → TwoTests f e (c .op) → refusal s c ≡ cond (f s c) e (cond (isNone (seen (s .pool) (s .cursor) c)) 19 0)
-  two-tests f e k = tests-of-op s c (k .2) ∙ k .0 ∙ ap (λ (b : Bool). cond (f s c) e (cond b 19 0)) (none-is w s c g (k .1))
+  two-tests f e k = tests-of-op s c (k .2) ∙ k .0 ∙ ap (λ (b : Bool). cond (f s c) e (cond b 19 0)) (none-is origin s c g (k .1))
 
   -- Ops 2, 3, 7 and 8 are refused with BAD_TREE, or else with NONE exactly if they see no entry: none with the key, or none at all.
   pub look-code : among ((2, 3) ∷ (7, 8) ∷ []) (c .op) ≡ true
@@ -120,7 +120,7 @@ module _ (w : Option Pool) (s : State) (c : Command) (g : GoodState w s) where
   unfolding codes-opened
   add-code i =
       tests-of-op s c (rw i) ∙ ap (λ (n : ℕ). firstMet (testsIn testsOf n) s c) i
-      ∙ ap (λ (b : Bool). cond (badTree s c) 11 (cond (badName s c) 13 (cond b 17 (room s c)))) (present-is w s c g)
+      ∙ ap (λ (b : Bool). cond (badTree s c) 11 (cond (badName s c) 13 (cond b 17 (room s c)))) (present-is origin s c g)
 
   abbrev PutTests : Dir → (State → Command → Bool) → ℕ → Type 0
   PutTests d f n =
@@ -129,7 +129,7 @@ module _ (w : Option Pool) (s : State) (c : Command) (g : GoodState w s) where
   put-tests : (d : Dir) (f : State → Command → Bool) → PutTests d f (c .op)
       → refusal s c ≡ cond (f s c) 12 (cond (badName s c) 13 (cond (outOfOrder s c d) 18 (room s c)))
   put-tests d f k =
-      tests-of-op s c (k .1) ∙ k .0 ∙ ap (λ (b : Bool). cond (f s c) 12 (cond (badName s c) 13 (cond b 18 (room s c)))) (order-is w s c g d)
+      tests-of-op s c (k .1) ∙ k .0 ∙ ap (λ (b : Bool). cond (f s c) 12 (cond (badName s c) 13 (cond b 18 (room s c)))) (order-is origin s c g d)
 
   -- Ops 16 to 19 are refused with BAD_CURSOR, BAD_NAME, ORDER exactly if the key is out of order on their side, and for want of room: 16 and 18,
   pub before-code : among ((16, 16) ∷ (18, 18) ∷ []) (c .op) ≡ true
@@ -189,7 +189,7 @@ module _ (w : Option Pool) (s : State) (c : Command) (g : GoodState w s) where
   pub handle-done : c .op ≡ 4 → (refusal s c ≡ 0) exactly-if ((badTree s c ≡ false) × HasHandle (entriesOf (s .pool) (c .tree)) (c .slot) (c .stamp))
   unfolding codes-opened
   handle-done i =
-      let k = handle-is w s c g in
+      let k = handle-is origin s c g in
       let e : refusal s c ≡ cond (badTree s c) 11 (cond (badSlot s c) 14 (cond (stale s c) 15 (cond (otherTree s c) 16 0))) =
       tests-of-op s c (rw i) ∙ ap (λ (n : ℕ). firstMet (testsIn testsOf n) s c) i in
       let f = four (badTree s c) (badSlot s c) (stale s c) (otherTree s c) 0 in
@@ -201,13 +201,13 @@ module _ (w : Option Pool) (s : State) (c : Command) (g : GoodState w s) where
       × (isNone (seen (s .pool) (s .cursor) c) ≡ false))
   unfolding codes-opened
   beside-done h =
-      let k = handle-is w s c g in
+      let k = handle-is origin s c g in
       let T : ℕ → Type 0 = λ n.
       (firstMet (testsIn testsOf n) s c ≡ cond (badTree s c) 11 (cond (badSlot s c) 14 (cond (stale s c) 15 (cond (otherTree s c) 16 (cond (noneThere s c) 19 0)))))
       × (seeing n ≡ true) × (within 1 lastOp n ≡ true) in
       let t = among-all T ((5, 6) ∷ []) (c .op) h (more (refl, refl, refl) (more (refl, refl, refl) nil)) in
       let e = tests-of-op s c (t .2) ∙ t .0 in
-      let n = none-is w s c g (t .1) in
+      let n = none-is origin s c g (t .1) in
       let f = four (badTree s c) (badSlot s c) (stale s c) (otherTree s c) (cond (noneThere s c) 19 0) in (
         λ z. let j = f .0 (sym e ∙ z) in (j .0, k .0 (j .1), sym n ∙ last (noneThere s c) .0 (j .2)),
         λ j. e ∙ f .1 (j .0, k .1 (j .1), last (noneThere s c) .1 (n ∙ j .2)),
@@ -216,10 +216,10 @@ module _ (w : Option Pool) (s : State) (c : Command) (g : GoodState w s) where
 -- ---- the free slot
 
 -- NO_SLOT: no slot is free exactly if the trees' lists have as many entries as the pool has slots.
-pub no-slot-is : (w : Option Pool) (s : State) (c : Command) → GoodState w s
+pub no-slot-is : (origin : Option Pool) (s : State) (c : Command) → GoodState origin s
     → (noSlot s c ≡ true) exactly-if (total (s .pool) 1 (length (s .pool .trees)) ≡ length (s .pool .slots))
 unfolding noSlot
-no-slot-is w s c g =
+no-slot-is origin s c g =
     let p = s .pool in
     let k = none-free p in
     let n = live-total p (g .pool) in

@@ -53,7 +53,7 @@ module _ (p : Pool) (good : WellFormed p) (t x : ℕ) where
 
 -- ---- the tests
 
-module _ (w : Option Pool) (s : State) (c : Command) (g : GoodState w s) where
+module _ (origin : Option Pool) (s : State) (c : Command) (g : GoodState origin s) where
   -- what the pool has in the slot passes the test of the stamp
   fresh-lives : stale s c ≡ false → (r : Rec) × (recAt (s .pool) (c .slot) ≡ some r) × (r .stamp ≡ c .stamp)
   unfolding stale isStale

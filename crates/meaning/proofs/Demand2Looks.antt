@@ -50,17 +50,17 @@ shows-it s c good {t} {e} h k z =
           ∙ ap₂ (λ (j : Cursor) (y : Option Entry). shown 0 (kind j) y) (sym now) (k .is);
     }
 
-module _ (w : Option Pool) (s : State) (c : Command) (g : GoodState w s) where
+module _ (origin : Option Pool) (s : State) (c : Command) (g : GoodState origin s) where
   -- Ops 2, 5 to 8 and 10 to 15 show the entry that the table `sights` gives for them over the lists, and change nothing but the cursor.
   pub looks : looking (c .op) ≡ true → refusal s c ≡ 0 → Looked s c (seen (s .pool) (s .cursor) c)
-  looks h z = shows-it s c (g .pool) (looking-shows c h) (sees w s c g (looking-sees (c .op) h)) z
+  looks h z = shows-it s c (g .pool) (looking-shows c h) (sees origin s c g (looking-sees (c .op) h)) z
 
   -- ---- when there is none, and when a key is present or out of order
 
   -- NONE: the test is met exactly if the op sees no entry.
   pub none-is : seeing (c .op) ≡ true → noneThere s c ≡ isNone (seen (s .pool) (s .cursor) c)
   unfolding noneThere
-  none-is h = none-zero (meant s c) (sees w s c g h)
+  none-is h = none-zero (meant s c) (sees origin s c g h)
 
   -- PRESENT: the test is met exactly if the list of the tree has an entry with the key.
   pub present-is : present s c ≡ not (isNone (lookup (c .key) (entriesOf (s .pool) (c .tree))))
@@ -83,10 +83,10 @@ module _ (w : Option Pool) (s : State) (c : Command) (g : GoodState w s) where
 abbrev EndsAt : State → Command → Tree → Way → Type 0
 EndsAt s c u v = entry (byKeyIn (s .pool) (c .key)) (treeAt (s .pool) (c .tree)) ≡ record { part = u; way = v }
 
-enters-row : (w : Option Pool) (s : State) (c : Command) → GoodState w s → badTree s c ≡ false
+enters-row : (origin : Option Pool) (s : State) (c : Command) → GoodState origin s → badTree s c ≡ false
     → Entered (entriesOf (s .pool) (c .tree)) (c .tree) (c .key) (carriedOut (opIn ops 9) s c)
 unfolding ops opIn op_means_does_then_ carriedOut show nearestOf orNearest entered enteredAt entryOf kind get
-enters-row w s c g h = let f = entry (byKeyIn (s .pool) (c .key)) (treeAt (s .pool) (c .tree)) in go (f .part) (f .way) refl
+enters-row origin s c g h = let f = entry (byKeyIn (s .pool) (c .key)) (treeAt (s .pool) (c .tree)) in go (f .part) (f .way) refl
   where
     replied : {u : Tree} {v : Way} → EndsAt s c u v
         → carriedOut (opIn ops 9) s c .answer
@@ -126,13 +126,13 @@ enters-row w s c g h = let f = entry (byKeyIn (s .pool) (c .key)) (treeAt (s .po
         found (entryAt p x) (looked e ∙ is) (placed e ∙ ap (occupied t) (sym (entry-slot p alive))) (replied e ∙ ap (shown 0 1) is)
 
 -- Op 9 changes nothing but the cursor, and shows the entry with the key, or else the one beside its place on which it would hang.
-pub enters : (w : Option Pool) (s : State) (c : Command) → GoodState w s → c .op ≡ 9 → refusal s c ≡ 0
+pub enters : (origin : Option Pool) (s : State) (c : Command) → GoodState origin s → c .op ≡ 9 → refusal s c ≡ 0
     → (perform s c .state .pool ≡ s .pool) × (perform s c .state .mark ≡ s .mark) × Entered (entriesOf (s .pool) (c .tree)) (c .tree) (c .key) (perform s c)
 unfolding opOf ops opIn op_means_does_then_ carriedOut show within
-enters w s c g i z =
+enters origin s c g i z =
     let q : perform s c ≡ carriedOut (opIn ops 9) s c = done-is s c z ∙ ap (λ (n : ℕ). carriedOut (opIn ops n) s c) i in
     let h = passed s c z .tree-good (rw i) in (
       ap (λ (y : Performed). y .state .pool) q,
       ap (λ (y : Performed). y .state .mark) q,
-      subst (Entered (entriesOf (s .pool) (c .tree)) (c .tree) (c .key)) (sym q) (enters-row w s c g h),
+      subst (Entered (entriesOf (s .pool) (c .tree)) (c .tree) (c .key)) (sym q) (enters-row origin s c g h),
     )

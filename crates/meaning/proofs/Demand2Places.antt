@@ -88,14 +88,14 @@ new-place p good t k new =
 
 -- ---- the laws of Demand2Shapes, without a premise on the place
 
-module _ (w : Option Pool) (s : State) (c : Command) (g : GoodState w s) where
+module _ (origin : Option Pool) (s : State) (c : Command) (g : GoodState origin s) where
   -- Every op that adds, and is not refused: the search for its key ends at an empty place, and the tree after it is the one that `_insert` gives there.
   pub inserted-there : Parsed c → adding (c .op) ≡ true → refusal s c ≡ 0
       → (q : Way) × (entry (byKeyIn (s .pool) (c .key)) (treeAt (s .pool) (treeOf s c)) ≡ record { part = leaf; way = q })
       × (treeAt (perform s c .state .pool) (treeOf s c) ≡ insert q (freeSlot (s .pool)))
   inserted-there parsed h z =
-      let f = new-place (s .pool) (g .pool) (treeOf s c) (c .key) (adding-ok w s c parsed g h z .new) in
-      (f .0, f .1, inserted-shape w s c parsed g h z (f .0) (f .1))
+      let f = new-place (s .pool) (g .pool) (treeOf s c) (c .key) (adding-ok origin s c parsed g h z .new) in
+      (f .0, f .1, inserted-shape origin s c parsed g h z (f .0) (f .1))
 
   -- An op that puts a record in beside the one that the cursor stands at, and is not refused: that record stands in its tree, and the tree after the op is
   -- the one that `_insert_here` gives on that side of it.
@@ -108,7 +108,7 @@ module _ (w : Option Pool) (s : State) (c : Command) (g : GoodState w s) where
       let alive = standing-lives (s .pool) (g .pool) (s .cursor) (g .cursor) n in
       let there : Lives (s .pool) (treeOf s c) x = subst (λ (t : ℕ). Lives (s .pool) t x) (sym (beside-tree s c d h z)) alive in
       let k = live-stands (s .pool) (g .pool) d (treeOf s c) x there in
-      (k, beside-shape w s c parsed g d h z (k .near) (k .bal) (k .far) (k .way) (k .is))
+      (k, beside-shape origin s c parsed g d h z (k .near) (k .bal) (k .far) (k .way) (k .is))
 
   -- Ops 16 to 19 that are not refused have a record that the cursor stands at; on an empty tree ops 24 and 25 have none, and `beside-none` is their law.
   pub stands-at : within 16 19 (c .op) ≡ true → refusal s c ≡ 0 → standing (s .cursor) ≡ 0 → ⊥
@@ -121,8 +121,8 @@ module _ (w : Option Pool) (s : State) (c : Command) (g : GoodState w s) where
       × (treeAt (perform s c .state .pool) (treeOf s c) ≡ remove (k .near) (k .bal) (k .far) (k .way))
   unfolding branch
   removed-there h z =
-      let k = live-stands (s .pool) (g .pool) left (treeOf s c) (meant s c) (finds w s c g h z .0) in
-      (k, removed-shape w s c g h z (k .near) (k .bal) (k .far) (k .way) (k .is))
+      let k = live-stands (s .pool) (g .pool) left (treeOf s c) (meant s c) (finds origin s c g h z .0) in
+      (k, removed-shape origin s c g h z (k .near) (k .bal) (k .far) (k .way) (k .is))
 
 -- ---- ops 24 and 25 on an empty tree
 
@@ -144,7 +144,7 @@ first-none e (node l s b r) a z = absurd (go (pick e (list e l) (list e r)) (pic
     go [] rest (more h hs) i = h i
     go (y ∷ front) rest (more h hs) i = h i
 
-module _ (w : Option Pool) (s : State) (c : Command) (g : GoodState w s) where
+module _ (origin : Option Pool) (s : State) (c : Command) (g : GoodState origin s) where
   at-end : (d : Dir) → c .op ≡ pick d 25 24 → refusal s c ≡ 0 → AtEnd d (s .pool) (s .cursor)
   at-end left e z = end-ok left (s .pool) (s .cursor) (g .cursor) (kind-ok 3 s c (passed s c z .at-first (eq-eqb 25 (c .op) (sym e))))
   at-end right e z = end-ok right (s .pool) (s .cursor) (g .cursor) (kind-ok 4 s c (passed s c z .at-last (eq-eqb 24 (c .op) (sym e))))
@@ -158,11 +158,11 @@ module _ (w : Option Pool) (s : State) (c : Command) (g : GoodState w s) where
     where
       go : (within 16 19 (c .op) ≡ true) ⊎ (c .op ≡ pick d 25 24)
           → (treeAt (s .pool) (treeOf s c) ≡ leaf) × (treeAt (perform s c .state .pool) (treeOf s c) ≡ insert root (freeSlot (s .pool)))
-      go (inl i) = absurd (stands-at w s c g i z n)
+      go (inl i) = absurd (stands-at origin s c g i z n)
       go (inr i) =
           let p = s .pool in
           let t = cursorTree (s .cursor) in
           let slots : All (λ y. y ≡ 0 → ⊥) (list d (treeAt p t)) = all-map (λ y l k. omega (arith, l .low, k)) (all-from d (treeAt p t) (any-live p (g .pool) t)) in
           let empty : treeAt p (treeOf s c) ≡ leaf =
           ap (treeAt p) (beside-tree s c d h z) ∙ first-none d (treeAt p t) slots (sym (at-end d i z .is-first) ∙ n) in
-          (empty, inserted-shape w s c parsed g (beside-ops d (c .op) h .0) z root (ap (entry (byKeyIn p (c .key))) empty))
+          (empty, inserted-shape origin s c parsed g (beside-ops d (c .op) h .0) z root (ap (entry (byKeyIn p (c .key))) empty))

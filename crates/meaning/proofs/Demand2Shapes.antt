@@ -41,12 +41,12 @@ use Rattle.meaning.proofs.Tables.{passed, tree-is}
 -- ---- adding
 
 -- `add` and `insert_node`: every op that adds leaves the tree that `_insert` gives at the empty place where the search for the key ends.
-pub inserted-shape : (w : Option Pool) (s : State) (c : Command) → Parsed c → GoodState w s → adding (c .op) ≡ true → refusal s c ≡ 0
+pub inserted-shape : (origin : Option Pool) (s : State) (c : Command) → Parsed c → GoodState origin s → adding (c .op) ≡ true → refusal s c ≡ 0
     → (q : Way) → entry (byKeyIn (s .pool) (c .key)) (treeAt (s .pool) (treeOf s c)) ≡ record { part = leaf; way = q }
     → treeAt (perform s c .state .pool) (treeOf s c) ≡ insert q (freeSlot (s .pool))
 unfolding newEntry add
-inserted-shape w s c parsed g h z q e =
-    adds w s c parsed g h z .shape ∙ ap (λ (f : Spot). added (f .part) (f .way) (freeSlot (s .pool)) (treeAt (s .pool) (treeOf s c))) e
+inserted-shape origin s c parsed g h z q e =
+    adds origin s c parsed g h z .shape ∙ ap (λ (f : Spot). added (f .part) (f .way) (freeSlot (s .pool)) (treeAt (s .pool) (treeOf s c))) e
 
 -- they add, and use the cursor's tree
 pub beside-ops : (d : Dir) (n : ℕ) → among (besideOps d) n ≡ true → (adding n ≡ true) × (within 1 11 n ≡ false)
@@ -72,11 +72,11 @@ is-next p e k (y ∷ l) a h = next (past-says p e y k h (all-head a))
 
 -- Insert before and after, `append` and `prepend`: the tree after ops 16 to 19, 24 and 25 is the one that `_insert_here` gives on that side of the record
 -- that the cursor stands at, wherever that record stands in its tree.
-pub beside-shape : (w : Option Pool) (s : State) (c : Command) → Parsed c → GoodState w s → (d : Dir) → among (besideOps d) (c .op) ≡ true
+pub beside-shape : (origin : Option Pool) (s : State) (c : Command) → Parsed c → GoodState origin s → (d : Dir) → among (besideOps d) (c .op) ≡ true
     → refusal s c ≡ 0 → (a : Tree) (b : Bal) (z : Tree) (q : Way) → treeAt (s .pool) (treeOf s c) ≡ plug q (branch d a (standing (s .cursor)) b z)
     → treeAt (perform s c .state .pool) (treeOf s c) ≡ insertHere d a (standing (s .cursor)) b z q (freeSlot (s .pool))
 unfolding newEntry byKeyIn keys beyond
-beside-shape w s c parsed g d h done a b z q i =
+beside-shape origin s c parsed g d h done a b z q i =
     let p = s .pool in
     let t = treeOf s c in
     let x = standing (s .cursor) in
@@ -98,7 +98,7 @@ beside-shape w s c parsed g d h done a b z q i =
     ∙ ap (λ (v : ℕ). following x (list e (treeAt p v))) (sym (beside-tree s c d h done))
     ∙ ap (following x) (ap (list e) i ∙ shape)
     ∙ following-at x pre rest (before-others (keyAt p) e pre x rest sorted-there) in
-    adds w s c parsed g (beside-ops d (c .op) h .0) done .shape
+    adds origin s c parsed g (beside-ops d (c .op) h .0) done .shape
     ∙ ap (add (byKeyIn p k) (freeSlot p)) i
     ∙ between (keys (keyAt p)) (byKeyIn p k) (key-exact (keyAt p) k .follows) d a x b z q (freeSlot p) sorted (past-says p d x k (order .0) here)
     (is-next p e k rest (all-tail (all-back pre (x ∷ rest) slots)) (subst (λ (y : ℕ). past p e y k ≡ true) beside (order .1)))
@@ -123,16 +123,16 @@ remove-at key l x b r q s =
     ap (λ (f : Spot). taking (f .part) (f .way) (plug q u)) found
 
 -- Ops 3, 4 and 21 to 23 leave the tree that `_remove` gives at the record that they remove, wherever that record stands in its tree.
-pub removed-shape : (w : Option Pool) (s : State) (c : Command) → GoodState w s → removing (c .op) ≡ true → refusal s c ≡ 0
+pub removed-shape : (origin : Option Pool) (s : State) (c : Command) → GoodState origin s → removing (c .op) ≡ true → refusal s c ≡ 0
     → (l : Tree) (b : Bal) (r : Tree) (q : Way) → treeAt (s .pool) (treeOf s c) ≡ plug q (node l (meant s c) b r)
     → treeAt (perform s c .state .pool) (treeOf s c) ≡ remove l b r q
 unfolding byKeyIn
-removed-shape w s c g h done l b r q i =
+removed-shape origin s c g h done l b r q i =
     let p = s .pool in
     let t = treeOf s c in
     let x = meant s c in
-    let alive = finds w s c g h done .0 in
-    removed-it w s c g t x alive refl (removing-takes c h) done .shape
+    let alive = finds origin s c g h done .0 in
+    removed-it origin s c g t x alive refl (removing-takes c h) done .shape
     ∙ ap (λ (k : ℕ). removeByKey (byKey (keyAt p) k) (treeAt p t)) (entry-key p x)
     ∙ ap (removeByKey (byKey (keyAt p) (keyAt p x))) i
     ∙ remove-at (keyAt p) l x b r q (subst (λ (v : Tree). Sorted (lessKey (keyAt p)) (list left v)) i (any-sorted p (g .pool) t))

@@ -3,7 +3,8 @@
 use mathlib.Core.List.{List}
 use mathlib.Core.Path.{_≡_, ap}
 use Prim.Native.Nat.{ℕ}
-use Rattle.meaning.specs.Doors.{Created, create, check, Outcome, batch, name}
+use Rattle.meaning.specs.Doors.{Created, create, check, Outcome, batch, name, Place, placeOf}
+use Rattle.meaning.specs.Listing.{listed}
 use Rattle.meaning.proofs.Determined.{determined}
 
 -- Two runs of create on the same sizes and the same buffer return the same code and leave the same bytes in the buffer.
@@ -39,3 +40,19 @@ batch-determined pool request answers code₁ code₂ answered₁ answered₂ po
 pub name-determined : (pool : List ℕ) (tree slot stamp : ℕ) (part₁ part₂ : List ℕ)
     → part₁ ≡ name pool tree slot stamp → part₂ ≡ name pool tree slot stamp → part₁ ≡ part₂
 name-determined pool tree slot stamp part₁ part₂ first second = determined (name pool tree slot) stamp part₁ part₂ first second
+
+-- Two runs of place_of on the same pool and handle return the same offset and the same length; it writes nothing.
+pub place-determined : (pool : List ℕ) (tree slot stamp at₁ at₂ len₁ len₂ : ℕ)
+    → record { at = at₁; len = len₁ } ≡ placeOf pool tree slot stamp
+    → record { at = at₂; len = len₂ } ≡ placeOf pool tree slot stamp
+    → (at₁ ≡ at₂) × (len₁ ≡ len₂)
+place-determined pool tree slot stamp at₁ at₂ len₁ len₂ first second =
+    let same = determined (placeOf pool tree slot) stamp (record { at = at₁; len = len₁ }) (record { at = at₂; len = len₂ }) first second in
+    (ap (λ (p : Place). p .at) same, ap (λ (p : Place). p .len) same)
+
+-- Two runs of listing on the same pool and the same buffer return the same length and leave the same bytes in the buffer.
+pub listing-determined : (pool out : List ℕ) (length₁ length₂ : ℕ) (out₁ out₂ : List ℕ)
+    → (out₁, length₁) ≡ listed pool out → (out₂, length₂) ≡ listed pool out → (length₁ ≡ length₂) × (out₁ ≡ out₂)
+listing-determined pool out length₁ length₂ out₁ out₂ first second =
+    let same = determined (listed pool) out (out₁, length₁) (out₂, length₂) first second in
+    (ap (λ (z : List ℕ × ℕ). z .1) same, ap (λ (z : List ℕ × ℕ). z .0) same)

@@ -115,25 +115,25 @@ pub free-only : {p : Pool} {x g : ℕ} → recAt p x ≡ none → Only x g Nothi
 free-only {p} {x} e = record { only = λ r i s. not-both (recAt p x) i e }
 
 -- After a removal, and after commands without a rollback that follow it, no record has the handle of the one removed.
-pub removed-now : {b w a : List ℕ} {before : List Command} {c : Command} (between rest : List Command) → Point b w a before (c ∷ (between ++ rest))
-    → Inside between → let s = stateAfter b before in removing (c .op) ≡ true → refusal s c ≡ 0 → (r : Rec) → recAt (s .pool) (meant s c) ≡ some r
-    → With (BoundNow (meant s c) (r .stamp) Nothing) (stateAfter b (before ++ (c ∷ between)))
+pub removed-now : {pool request answers : List ℕ} {before : List Command} {c : Command} (between rest : List Command) → Point pool request answers before (c ∷ (between ++ rest))
+    → Inside between → let s = stateAfter pool before in removing (c .op) ≡ true → refusal s c ≡ 0 → (r : Rec) → recAt (s .pool) (meant s c) ≡ some r
+    → With (BoundNow (meant s c) (r .stamp) Nothing) (stateAfter pool (before ++ (c ∷ between)))
 unfolding run
-removed-now {b} {before = before} {c = c} between rest p inside h z r live =
-    let s = stateAfter b before in
+removed-now {pool} {before = before} {c = c} between rest p inside h z r live =
+    let s = stateAfter pool before in
     let x = meant s c in
     let one = point-on {rest = between ++ rest} (c ∷ []) p in
-    let at : stateAfter b (before ++ (c ∷ [])) ≡ perform s c .state = state-on b before (c ∷ []) in
-    let pool : perform s c .state .pool ≡ _ = removes s c x r h z refl live .pool in
+    let at : stateAfter pool (before ++ (c ∷ [])) ≡ perform s c .state = state-on pool before (c ∷ []) in
+    let dropped : perform s c .state .pool ≡ _ = removes s c x r h z refl live .pool in
     let now : With (BoundNow x (r .stamp) Nothing) (perform s c .state) = record {
       at-mark = point-good one .0;
       good = subst (GoodState (point-good one .0)) at (point-good one .1);
-      has = subst (BoundNow x (r .stamp) Nothing (point-good one .0)) (sym pool) (record {
+      has = subst (BoundNow x (r .stamp) Nothing (point-good one .0)) (sym dropped) (record {
         handed-out = omega (arith, point-good p .1 .pool .recs x r live .stamp-high, dropped-next (s .pool) x r);
         now = free-only (dropped-free (s .pool) x r live);
       });
     } in
-    subst (With (BoundNow x (r .stamp) Nothing)) (sym (state-on b before (c ∷ between)))
+    subst (With (BoundNow x (r .stamp) Nothing)) (sym (state-on pool before (c ∷ between)))
     (inside-keeps (bound-now x (r .stamp) Nothing) (perform s c .state) between (parsed-parts between rest (point-parsed one) .0) inside now)
 
 -- After a command that leaves no mark open and no record with the handle it is refused.

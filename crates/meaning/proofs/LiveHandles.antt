@@ -30,15 +30,15 @@ module _ (s : State) (c : Command) (x : ℕ) (r : Rec) (w : WellFormed (s .pool)
 
   slot-passed : badSlot s c ≡ false
   unfolding badSlot within
-  slot-passed = let i = slot-in (s .pool) x r live in rw (h .slot, le-leb 1 x (i .0), le-leb x (length (s .pool .slots)) (i .1))
+  slot-passed = let i = slot-in (s .pool) x r live in rw (h .slot-is, le-leb 1 x (i .0), le-leb x (length (s .pool .slots)) (i .1))
 
   stamp-passed : stale s c ≡ false
   unfolding stale isStale
-  stamp-passed = rw (h .slot, h .stamp, live, eq-eqb (r .stamp) (r .stamp) refl)
+  stamp-passed = rw (h .slot-is, h .stamp-is, live, eq-eqb (r .stamp) (r .stamp) refl)
 
   home-passed : otherTree s c ≡ false
   unfolding otherTree isElsewhere
-  home-passed = rw (h .slot, live, home, eq-eqb (r .tree) (r .tree) refl)
+  home-passed = rw (h .slot-is, live, home, eq-eqb (r .tree) (r .tree) refl)
 
   only-none-there : refusal s c ≡ cond (within 5 6 (c .op)) (cond (noneThere s c) 19 0) 0
   unfolding refusal refusals firstOf refuse_at_if_ always unknown within among adding
@@ -78,4 +78,4 @@ pub named-in-batch : {pool request answers : List ℕ} {c : Command} {rest : Lis
 unfolding stateAfter run begun
 named-in-batch {pool = pool} p tree slot stamp n h home =
     let a = name-accepted pool tree slot stamp (p .pool-bytes) n .accepted in
-    live-in-batch p slot (a .rec) (a .is) (record { op = h .op; slot = h .slot; stamp = h .stamp ∙ sym (a .stamp) }) (home ∙ a .tree)
+    live-in-batch p slot (a .rec) (a .is) (record { op = h .op; slot-is = h .slot-is; stamp-is = h .stamp-is ∙ sym (a .stamp) }) (home ∙ a .tree)

@@ -126,7 +126,7 @@ module _ {Q : Option Pool → Pool → Type 0} (k : Keeps Q) where
   pub calls-keep : {b c : List ℕ} → Stored Q b → Calls b c → Stored Q c
   unfolding stateAfter run
   calls-keep h no-call = h
-  calls-keep h (then-batch {c = c} l w a v) =
+  calls-keep h (then-batch {later = c} l w a v) =
       let now = calls-keep h l in
       test (eqb (batch c w a .code) 0)
       (λ t.
@@ -135,7 +135,7 @@ module _ {Q : Option Pool → Pool → Type 0} (k : Keeps Q) where
       (λ t. subst (Stored Q) (sym (batch-refused c w a (eqb-false (batch c w a .code) 0 t))) now)
   calls-keep h (then-name l t x g) = calls-keep h l
   calls-keep h (then-check l) = calls-keep h l
-  calls-keep h (then-refused-create {c = c} l N T X n) = subst (Stored Q) (sym (create-refused N T X c n)) (calls-keep h l)
+  calls-keep h (then-refused-create {later = c} l N T X n) = subst (Stored Q) (sym (create-refused N T X c n)) (calls-keep h l)
 
 -- ---- the state at a point
 

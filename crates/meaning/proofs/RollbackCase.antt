@@ -63,7 +63,7 @@ applies = record {
 -- the second record was given slot 2 and stamp 2
 second : AddedBetween pool (take 1 (commands asked)) (nth 1) (nth 2 ∷ nth 3 ∷ []) 2 2
 unfolding Lines.opened stateAfter shownSlot shownStamp lines pool asked answers nth
-second = record { first = []; command = nth 2; others = nth 3 ∷ []; split = refl; adds = refl; done = refl; slot = refl; stamp = refl }
+second = record { first = []; command = nth 2; others = nth 3 ∷ []; split = refl; adds = refl; done = refl; slot-shown = refl; stamp-shown = refl }
 
 -- The pool that the batch leaves has the contents that it had at the mark, the first record again.
 gives-back : SameContents (stateAfter pool (take 1 (commands asked)) .pool) (read (batch pool asked answers .pool))

@@ -89,7 +89,7 @@ module _ {b w a : List ℕ} {before : List Command} {m : Command} {between rest 
       (c ∷ (d .others ++ rest)) (here .split) in
       let can = adding-ok (good .0) v c (first-parsed (point-parsed at-add)) (good .1) (d .adds) (d .done) in
       let shown = adds-shown v c (good .1 .pool) can (d .adds) (d .done) in
-      let is : g ≡ v .pool .next = sym (d .stamp) ∙ shown .stamp in
+      let is : g ≡ v .pool .next = sym (d .stamp-shown) ∙ shown .stamp in
       let added : perform v c .state .pool .next ≡ suc (v .pool .next) =
       ap (λ (p : Pool). p .next) (shown .pool) ∙ added-next (v .pool) (treeOf v c) (c .key) (c .name) can in
       let after = point-on (c ∷ []) at-add in

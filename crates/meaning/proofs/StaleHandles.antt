@@ -84,20 +84,20 @@ stale-refused s c h t =
 -- A handle that no live record has is refused.
 pub none-refused : (s : State) (c : Command) (x g : ℕ) → Only x g Nothing (s .pool) → ByHandle c x g → refusal s c ≡ staleNumber s c
 unfolding stale
-none-refused s c x g o h = stale-refused s c (h .op) (rw (h .slot, h .stamp) (only-stale o))
+none-refused s c x g o h = stale-refused s c (h .op) (rw (h .slot-is, h .stamp-is) (only-stale o))
 
 -- A command by handle that is not refused is for the live record that has the handle.
 pub command-accepted : (s : State) (c : Command) (x g : ℕ) → ByHandle c x g → refusal s c ≡ 0 → Accepted (s .pool) (c .tree) x g
 unfolding stale otherTree
 command-accepted s c x g h z =
     let t = passed s c z in
-    accepted-by (rw (h .slot, h .stamp) at (t .not-stale (h .op))) (rw (h .slot) at (t .in-tree (h .op)))
+    accepted-by (rw (h .slot-is, h .stamp-is) at (t .not-stale (h .op))) (rw (h .slot-is) at (t .in-tree (h .op)))
 
 -- ---- the door name
 
 by-removal : (t x g : ℕ) → ByHandle (removal t x g) x g
 unfolding removal within
-by-removal t x g = record { op = refl; slot = refl; stamp = refl }
+by-removal t x g = record { op = refl; slot-is = refl; stamp-is = refl }
 
 -- It gives nothing for a handle that no live record has.
 pub none-named : (b : List ℕ) (t x g : ℕ) → Only x g Nothing (read b) → name b t x g ≡ []
@@ -141,17 +141,17 @@ name-accepted b t x g a n = go (sound b) refl (eqb (refusal (begun (read b)) (re
 -- ---- a live record's handle
 
 -- A live record can be removed by its handle, in its tree.
-pub live-accepted : (s : State) (x : ℕ) (r : Rec) → WellFormed (s .pool) → recAt (s .pool) x ≡ some r → refusal s (removal (r .tree) x (r .stamp)) ≡ 0
+pub live-accepted : (s : State) (slot : ℕ) (r : Rec) → WellFormed (s .pool) → recAt (s .pool) slot ≡ some r → refusal s (removal (r .tree) slot (r .stamp)) ≡ 0
 unfolding refusal refusals firstOf refuse_at_if_ always unknown within among adding badTree badSlot stale otherTree isStale isElsewhere removal
-live-accepted s x r w e =
-    let g = w .recs x r e in
-    let i = slot-in (s .pool) x r e in
+live-accepted s slot r w e =
+    let g = w .recs slot r e in
+    let i = slot-in (s .pool) slot r e in
     rw (
       e,
       le-leb 1 (r .tree) (g .tree-low),
       le-leb (r .tree) (length (s .pool .trees)) (g .tree-high),
-      le-leb 1 x (i .0),
-      le-leb x (length (s .pool .slots)) (i .1),
+      le-leb 1 slot (i .0),
+      le-leb slot (length (s .pool .slots)) (i .1),
       eq-eqb (r .stamp) (r .stamp) refl,
       eq-eqb (r .tree) (r .tree) refl,
     )

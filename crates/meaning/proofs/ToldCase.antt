@@ -55,7 +55,7 @@ added = record { first = []; command = nth 1; others = []; split = refl; adds = 
 removal-answered : answerAt (batch pool asked answers .answers) 3 ≡ 15 ∷ replicate 23 0
 unfolding Lines.opened Told.opened lines pool asked answers nth
 removal-answered =
-    added-gone-told applies refl 1 1 added .1 .in-this-batch [] (nth 3) [] refl (record { op = refl; slot = refl; stamp = refl })
+    added-gone-told applies refl 1 1 added .1 .in-this-batch [] (nth 3) [] refl (record { op = refl; slot-is = refl; stamp-is = refl })
 
 -- It is so answered for ever.
 gone-for-ever : (later : List ℕ) → Calls (batch pool asked answers .pool) later → ToldGoneOn later 1 1

@@ -81,8 +81,8 @@ added-told between rest p slot stamp = (
         split = h .split;
         adds = h .adds;
         done = code-told q ∙ h .done;
-        slot-shown = ap shownSlot (answer-told q) ∙ h .slot;
-        stamp-shown = ap shownStamp (answer-told q) ∙ h .stamp;
+        slot-shown = ap shownSlot (answer-told q) ∙ h .slot-shown;
+        stamp-shown = ap shownStamp (answer-told q) ∙ h .stamp-shown;
       },
   λ h.
       let q = between-point between rest p (h .first) (h .command) (h .others) (h .split) in
@@ -93,8 +93,8 @@ added-told between rest p slot stamp = (
         split = h .split;
         adds = h .adds;
         done = sym (code-told q) ∙ h .done;
-        slot = ap shownSlot (sym (answer-told q)) ∙ h .slot-shown;
-        stamp = ap shownStamp (sym (answer-told q)) ∙ h .stamp-shown;
+        slot-shown = ap shownSlot (sym (answer-told q)) ∙ h .slot-shown;
+        stamp-shown = ap shownStamp (sym (answer-told q)) ∙ h .stamp-shown;
       },
 )
 

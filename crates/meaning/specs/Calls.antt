@@ -18,28 +18,28 @@ use Rattle.meaning.specs.Meant.{entriesOf}
 
 -- ---- door calls on one pool
 
--- c is what the bytes b of a pool are after door calls, as many as one likes and in any order. This is the proviso: only the doors write the pool,
+-- `later` is what the bytes of a pool are after door calls, as many as one likes and in any order. This is the proviso: only the doors write the pool,
 -- and each is lent it whole, as a pool and never as answers or as a list. A create that is done makes the pool anew, and is not among the calls; one
 -- that is refused is
-pub data Calls (b : List ℕ) : List ℕ → Type 0 where
-  no-call : Calls b b
-  then-batch : {c : List ℕ} → Calls b c → (w a : List ℕ) → Bytes w → Calls b (batch c w a .pool)
-  then-name : {c : List ℕ} → Calls b c → (t x g : ℕ) → Calls b c
-  then-check : {c : List ℕ} → Calls b c → Calls b c
-  then-refused-create : {c : List ℕ} → Calls b c → (N T X : ℕ) → (create N T X c .code ≡ 0 → ⊥) → Calls b (create N T X c .buffer)
+pub data Calls (pool : List ℕ) : List ℕ → Type 0 where
+  no-call : Calls pool pool
+  then-batch : {later : List ℕ} → Calls pool later → (request answers : List ℕ) → Bytes request → Calls pool (batch later request answers .pool)
+  then-name : {later : List ℕ} → Calls pool later → (tree slot stamp : ℕ) → Calls pool later
+  then-check : {later : List ℕ} → Calls pool later → Calls pool later
+  then-refused-create : {later : List ℕ} → Calls pool later → (N T X : ℕ) → (create N T X later .code ≡ 0 → ⊥) → Calls pool (create N T X later .buffer)
 
 -- ---- a point of a batch
 
--- the batch of bytes w is carried out on the pool of bytes b, and this is the point of it between its commands `before` and `rest`
-pub record Point (b w a : List ℕ) (before rest : List Command) : Type 0 where
-  pub pool-bytes : Bytes b
-  pub batch-bytes : Bytes w
-  pub done : batch b w a .code ≡ 0
-  pub split : commands w ≡ before ++ rest
+-- the batch `request` is carried out on the pool, and this is the point of it between its commands `before` and `rest`
+pub record Point (pool request answers : List ℕ) (before rest : List Command) : Type 0 where
+  pub pool-bytes : Bytes pool
+  pub batch-bytes : Bytes request
+  pub done : batch pool request answers .code ≡ 0
+  pub split : commands request ≡ before ++ rest
 
 -- the state there
 unfoldable pub stateAfter : List ℕ → List Command → State
-stateAfter b before = run (begun (read b)) before .state
+stateAfter pool before = run (begun (read pool)) before .state
 
 -- ---- between a mark and the rollback that closes it
 
@@ -48,11 +48,11 @@ pub data Inside : List Command → Type 0 where
   none-more : Inside []
   one-more : {c : Command} {cs : List Command} → (c .op ≡ 27 → ⊥) → (c .op ≡ 28 → ⊥) → Inside cs → Inside (c ∷ cs)
 
--- m is a mark, answered as done, at the point after the commands `before` of a batch; the commands `between` do not close it, and `rest` follows
-pub record Marked (b w a : List ℕ) (before : List Command) (m : Command) (between rest : List Command) : Type 0 where
-  pub point : Point b w a before (m ∷ (between ++ rest))
-  pub is-mark : m .op ≡ 26
-  pub done : refusal (stateAfter b before) m ≡ 0
+-- `mark` is a mark, answered as done, at the point after the commands `before` of a batch; the commands `between` do not close it, and `rest` follows
+pub record Marked (pool request answers : List ℕ) (before : List Command) (mark : Command) (between rest : List Command) : Type 0 where
+  pub point : Point pool request answers before (mark ∷ (between ++ rest))
+  pub is-mark : mark .op ≡ 26
+  pub done : refusal (stateAfter pool before) mark ≡ 0
   pub inside : Inside between
 
 -- q has the contents of p: every tree lists the same records (slot, stamp, key, name's place and bytes), every slot holds the same record or is free
@@ -73,68 +73,68 @@ shownSlot answer = getLE 2 answer 2
 unfoldable pub shownStamp : List ℕ → ℕ
 shownStamp answer = getLE 4 answer 4
 
--- a command among those in between added a record, was done, and answered with the handle of slot x and stamp g
-pub record AddedBetween (b : List ℕ) (before : List Command) (m : Command) (between : List Command) (x g : ℕ) : Type 0 where
+-- a command among those in between added a record, was done, and answered with this handle
+pub record AddedBetween (pool : List ℕ) (before : List Command) (mark : Command) (between : List Command) (slot stamp : ℕ) : Type 0 where
   pub first : List Command
   pub command : Command
   pub others : List Command
   pub split : between ≡ first ++ (command ∷ others)
   pub adds : adding (command .op) ≡ true
-  pub done : refusal (stateAfter b (before ++ (m ∷ first))) command ≡ 0
-  pub slot : shownSlot (perform (stateAfter b (before ++ (m ∷ first))) command .answer) ≡ x
-  pub stamp : shownStamp (perform (stateAfter b (before ++ (m ∷ first))) command .answer) ≡ g
+  pub done : refusal (stateAfter pool (before ++ (mark ∷ first))) command ≡ 0
+  pub slot-shown : shownSlot (perform (stateAfter pool (before ++ (mark ∷ first))) command .answer) ≡ slot
+  pub stamp-shown : shownStamp (perform (stateAfter pool (before ++ (mark ∷ first))) command .answer) ≡ stamp
 
 -- ---- a handle that is refused
 
--- the command names its record by the handle of slot x and stamp g: it is a removal by handle, or asks for the next or previous of a handle
-pub record ByHandle (c : Command) (x g : ℕ) : Type 0 where
+-- the command names its record by this handle: it is a removal by handle, or asks for the next or previous of a handle
+pub record ByHandle (c : Command) (slot stamp : ℕ) : Type 0 where
   pub op : within 4 6 (c .op) ≡ true
-  pub slot : c .slot ≡ x
-  pub stamp : c .stamp ≡ g
+  pub slot-is : c .slot ≡ slot
+  pub stamp-is : c .stamp ≡ stamp
 
 -- the number by which it is refused as stale: 15, unless its tree (11) or its slot (14) is none of the pool's
 unfoldable pub staleNumber : State → Command → ℕ
 staleNumber s c = cond (badTree s c) 11 (cond (badSlot s c) 14 15)
 
--- every door on the pool of bytes b refuses the handle: a batch at each of its points, and name in each tree
-pub record RefusedOn (b : List ℕ) (x g : ℕ) : Type 0 where
-  pub by-batch : (w a : List ℕ) (before : List Command) (c : Command) (rest : List Command) → Point b w a before (c ∷ rest) → ByHandle c x g
-      → refusal (stateAfter b before) c ≡ staleNumber (stateAfter b before) c
-  pub by-name : (t : ℕ) → name b t x g ≡ []
+-- every door on the pool refuses the handle: a batch at each of its points, and name in each tree
+pub record RefusedOn (pool : List ℕ) (slot stamp : ℕ) : Type 0 where
+  pub by-batch : (request answers : List ℕ) (before : List Command) (c : Command) (rest : List Command) → Point pool request answers before (c ∷ rest) → ByHandle c slot stamp
+      → refusal (stateAfter pool before) c ≡ staleNumber (stateAfter pool before) c
+  pub by-name : (tree : ℕ) → name pool tree slot stamp ≡ []
 
 -- from the point after the commands `before` of a batch on the handle is refused: by the rest of this batch, and on the pool that it leaves by every
 -- door after any door calls
-pub record RefusedFrom (b w a : List ℕ) (before : List Command) (x g : ℕ) : Type 0 where
-  pub in-this-batch : (more : List Command) (c : Command) (rest : List Command) → commands w ≡ before ++ (more ++ (c ∷ rest)) → ByHandle c x g
-      → refusal (stateAfter b (before ++ more)) c ≡ staleNumber (stateAfter b (before ++ more)) c
-  pub ever-after : (d : List ℕ) → Calls (batch b w a .pool) d → RefusedOn d x g
+pub record RefusedFrom (pool request answers : List ℕ) (before : List Command) (slot stamp : ℕ) : Type 0 where
+  pub in-this-batch : (more : List Command) (c : Command) (rest : List Command) → commands request ≡ before ++ (more ++ (c ∷ rest)) → ByHandle c slot stamp
+      → refusal (stateAfter pool (before ++ more)) c ≡ staleNumber (stateAfter pool (before ++ more)) c
+  pub ever-after : (later : List ℕ) → Calls (batch pool request answers .pool) later → RefusedOn later slot stamp
 
 -- ---- a handle that reaches one record only
 
--- slot x holds the record r, whose name has the bytes n
-pub record Holds (p : Pool) (x : ℕ) (r : Rec) (n : List ℕ) : Type 0 where
-  pub rec : recAt p x ≡ some r
-  pub name : part (p .text) (r .start) (r .len) ≡ n
+-- the slot holds the record r, whose name has the bytes `named`
+pub record Holds (p : Pool) (slot : ℕ) (r : Rec) (named : List ℕ) : Type 0 where
+  pub rec : recAt p slot ≡ some r
+  pub name : part (p .text) (r .start) (r .len) ≡ named
 
--- where a door on the pool of bytes b accepts the handle of slot x and the stamp of r, it is for r, in r's tree and with r's name n
-pub record ReachesOn (b : List ℕ) (x : ℕ) (r : Rec) (n : List ℕ) : Type 0 where
-  pub by-batch : (w a : List ℕ) (before : List Command) (c : Command) (rest : List Command) → Point b w a before (c ∷ rest)
-      → ByHandle c x (r .stamp) → refusal (stateAfter b before) c ≡ 0 → Holds (stateAfter b before .pool) x r n × (c .tree ≡ r .tree)
-  pub by-name : (t : ℕ) → (name b t x (r .stamp) ≡ [] → ⊥) → Holds (read b) x r n × (t ≡ r .tree) × (name b t x (r .stamp) ≡ n)
+-- where a door on the pool accepts the handle of the slot and the stamp of r, it is for r, in r's tree and with r's name
+pub record ReachesOn (pool : List ℕ) (slot : ℕ) (r : Rec) (named : List ℕ) : Type 0 where
+  pub by-batch : (request answers : List ℕ) (before : List Command) (c : Command) (rest : List Command) → Point pool request answers before (c ∷ rest)
+      → ByHandle c slot (r .stamp) → refusal (stateAfter pool before) c ≡ 0 → Holds (stateAfter pool before .pool) slot r named × (c .tree ≡ r .tree)
+  pub by-name : (tree : ℕ) → (name pool tree slot (r .stamp) ≡ [] → ⊥) → Holds (read pool) slot r named × (tree ≡ r .tree) × (name pool tree slot (r .stamp) ≡ named)
 
 -- so from the point after the commands `before` of a batch on
-pub record ReachesFrom (b w a : List ℕ) (before : List Command) (x : ℕ) (r : Rec) (n : List ℕ) : Type 0 where
-  pub in-this-batch : (more : List Command) (c : Command) (rest : List Command) → commands w ≡ before ++ (more ++ (c ∷ rest))
-      → ByHandle c x (r .stamp) → refusal (stateAfter b (before ++ more)) c ≡ 0
-      → Holds (stateAfter b (before ++ more) .pool) x r n × (c .tree ≡ r .tree)
-  pub ever-after : (d : List ℕ) → Calls (batch b w a .pool) d → ReachesOn d x r n
+pub record ReachesFrom (pool request answers : List ℕ) (before : List Command) (slot : ℕ) (r : Rec) (named : List ℕ) : Type 0 where
+  pub in-this-batch : (more : List Command) (c : Command) (rest : List Command) → commands request ≡ before ++ (more ++ (c ∷ rest))
+      → ByHandle c slot (r .stamp) → refusal (stateAfter pool (before ++ more)) c ≡ 0
+      → Holds (stateAfter pool (before ++ more) .pool) slot r named × (c .tree ≡ r .tree)
+  pub ever-after : (later : List ℕ) → Calls (batch pool request answers .pool) later → ReachesOn later slot r named
 
 -- the answer of the command c, at the point after the commands `before` of a batch, gives a handle: it is that of this record with this name, which
 -- its slot holds before the command or after it, and after the command it reaches no other
-pub record GivenFor (b w a : List ℕ) (before : List Command) (c : Command) : Type 0 where
+pub record GivenFor (pool request answers : List ℕ) (before : List Command) (c : Command) : Type 0 where
   pub rec : Rec
   pub name : List ℕ
-  pub stamp : rec .stamp ≡ shownStamp (perform (stateAfter b before) c .answer)
-  pub held : Holds (stateAfter b before .pool) (shownSlot (perform (stateAfter b before) c .answer)) rec name
-      ⊎ Holds (stateAfter b (before ++ (c ∷ [])) .pool) (shownSlot (perform (stateAfter b before) c .answer)) rec name
-  pub reaches : ReachesFrom b w a (before ++ (c ∷ [])) (shownSlot (perform (stateAfter b before) c .answer)) rec name
+  pub stamp : rec .stamp ≡ shownStamp (perform (stateAfter pool before) c .answer)
+  pub held : Holds (stateAfter pool before .pool) (shownSlot (perform (stateAfter pool before) c .answer)) rec name
+      ⊎ Holds (stateAfter pool (before ++ (c ∷ [])) .pool) (shownSlot (perform (stateAfter pool before) c .answer)) rec name
+  pub reaches : ReachesFrom pool request answers (before ++ (c ∷ [])) (shownSlot (perform (stateAfter pool before) c .answer)) rec name

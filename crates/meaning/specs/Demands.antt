@@ -20,18 +20,18 @@ use Rattle.meaning.specs.States.{GoodState, Parsed}
 
 -- ---- the pool and the batch
 
--- the row b stores the record r with the links k
-pub record RowSays (b : List ℕ) (r : Rec) (k : Links) : Type 0 where
-  pub key-is : keyIn b ≡ r .key
-  pub left-is : leftIn b ≡ k .left
-  pub right-is : rightIn b ≡ k .right
-  pub parent-is : parentIn b ≡ k .parent
-  pub balance-is : balanceIn b ≡ k .balance
-  pub tree-is : treeIn b ≡ r .tree
-  pub stamp-is : stampIn b ≡ r .stamp
-  pub start-is : startIn b ≡ r .start
-  pub len-is : lenIn b ≡ r .len
-  pub rest-is : zeros (drop 26 b) ≡ true
+-- the row stores the record r with the links k
+pub record RowSays (row : List ℕ) (r : Rec) (k : Links) : Type 0 where
+  pub key-is : keyIn row ≡ r .key
+  pub left-is : leftIn row ≡ k .left
+  pub right-is : rightIn row ≡ k .right
+  pub parent-is : parentIn row ≡ k .parent
+  pub balance-is : balanceIn row ≡ k .balance
+  pub tree-is : treeIn row ≡ r .tree
+  pub stamp-is : stampIn row ≡ r .stamp
+  pub start-is : startIn row ≡ r .start
+  pub len-is : lenIn row ≡ r .len
+  pub rest-is : zeros (drop 26 row) ≡ true
 
 -- q has as many slots and trees as p, and as much room for text
 pub record SameSizes (p q : Pool) : Type 0 where
@@ -41,12 +41,12 @@ pub record SameSizes (p q : Pool) : Type 0 where
 
 -- a command of a batch, with those before it and those behind it: the state in which it begins is good, so that the laws of single commands hold of it;
 -- its answer is that of the command performed in that state and stands at its place; and the rest of the batch goes on from the state that it leaves
-pub record InTurn (b w a : List ℕ) (before : List Command) (c : Command) (behind : List Command) : Type 0 where
+pub record InTurn (pool request answers : List ℕ) (before : List Command) (c : Command) (behind : List Command) : Type 0 where
   pub mark : Option Pool
-  pub good : GoodState mark (run (begun (read b)) before .state)
+  pub good : GoodState mark (run (begun (read pool)) before .state)
   pub parsed : Parsed c
-  pub answer : part (batch b w a .answers) (24 * length before) 24 ≡ perform (run (begun (read b)) before .state) c .answer
-  pub goes-on : run (begun (read b)) (commands w) .state ≡ run (perform (run (begun (read b)) before .state) c .state) behind .state
+  pub answer : part (batch pool request answers .answers) (24 * length before) 24 ≡ perform (run (begun (read pool)) before .state) c .answer
+  pub goes-on : run (begun (read pool)) (commands request) .state ≡ run (perform (run (begun (read pool)) before .state) c .state) behind .state
 
 -- ---- looks
 

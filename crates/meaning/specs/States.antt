@@ -70,10 +70,10 @@ pub data CursorOk (p : Pool) : Cursor → Type 0 where
   at-last : {t x : ℕ} → 1 ≤ t → t ≤ length (p .trees) → x ≡ first (list right (treeAt p t)) → CursorOk p (lastEntry t x)
 
 -- a state with the pool at its open mark, if there is one
-pub record GoodState (w : Option Pool) (s : State) : Type 0 where
+pub record GoodState (origin : Option Pool) (s : State) : Type 0 where
   pub pool : WellFormed (s .pool)
   pub cursor : CursorOk (s .pool) (s .cursor)
-  pub journal : Journal w (s .mark) (s .pool)
+  pub journal : Journal origin (s .mark) (s .pool)
 
 -- a command as a batch of bytes gives it
 pub record Parsed (c : Command) : Type 0 where

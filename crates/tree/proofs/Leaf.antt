@@ -10,20 +10,6 @@ use mir.Val.{boolByte}
 use Rattle.avl.specs.Tree.{Dir, left, right, flip, alike, toBalance}
 use Rattle.tree.specs.Node.{way, child, parent, putN, putBoth}
 
--- from a side back to the code's
-unway : Dir → Bool
-unway left = false
-unway right = true
-
-unway-way : (b : Bool) → unway (way b) ≡ b
-unfolding unway
-unway-way true = refl
-unway-way false = refl
-
--- Two values that stand for the same side are the same: a promise about `way` determines the value.
-pub sides-same : (a b : Bool) → way a ≡ way b → a ≡ b
-sides-same a b e = sym (unway-way a) ∙ ap unway e ∙ unway-way b
-
 pub way-not : (b : Bool) → way (not b) ≡ flip (way b)
 way-not true = refl
 way-not false = refl

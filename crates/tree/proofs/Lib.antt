@@ -1,4 +1,5 @@
 pub mod Leaf
+pub mod OneToOne
 pub mod Loops
 pub mod NodeSteps
 pub mod RotateSteps

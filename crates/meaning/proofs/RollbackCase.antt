@@ -29,18 +29,24 @@ lines =
     ∷ rollback ⇒ kind 0 nothing
     ∷ []
 
-unfoldable pool : List ℕ
+unfoldable pub pool : List ℕ
 pool = fresh 2 1 4
 
+unfoldable pub asking : List Line → List ℕ
+asking l = batchOf l (letters l)
+
 unfoldable asked : List ℕ
-asked = batchOf lines (letters lines)
+asked = asking lines
 
 unfoldable answers : List ℕ
 answers = replicate 120 0
 
--- its commands, counted from 0
+-- the commands that lines ask, counted from 0
+unfoldable pub asks : List Line → ℕ → Command
+asks l i = getD (commands (asking l)) i (removal 0 0 0)
+
 unfoldable nth : ℕ → Command
-nth i = getD (commands asked) i (removal 0 0 0)
+nth i = asks lines i
 
 pub are-bytes : (b : List ℕ) → every (λ n. ltb n 256) b ≡ true → Bytes b
 are-bytes b h = record { below = λ j. go j (decLt j (length b)) }
@@ -51,7 +57,7 @@ are-bytes b h = record { below = λ j. go j (decLt j (length b)) }
 
 -- the mark is done, and the rollback closes it
 applies : Marked pool asked answers (take 1 (commands asked)) (nth 1) (nth 2 ∷ nth 3 ∷ []) (nth 4 ∷ [])
-unfolding Lines.opened stateAfter lines pool asked answers nth
+unfolding Lines.opened stateAfter lines pool asking asked answers asks nth
 applies = record {
   point = record { pool-bytes = are-bytes pool refl; batch-bytes = are-bytes asked refl; done = refl; split = refl };
   is-mark = refl;
@@ -62,15 +68,15 @@ applies = record {
 
 -- the second record was given slot 2 and stamp 2
 second : AddedBetween pool (take 1 (commands asked)) (nth 1) (nth 2 ∷ nth 3 ∷ []) 2 2
-unfolding Lines.opened stateAfter shownSlot shownStamp lines pool asked answers nth
+unfolding Lines.opened stateAfter shownSlot shownStamp lines pool asking asked answers asks nth
 second = record { first = []; command = nth 2; others = nth 3 ∷ []; split = refl; adds = refl; done = refl; slot-shown = refl; stamp-shown = refl }
 
 -- The pool that the batch leaves has the contents that it had at the mark, the first record again.
 gives-back : SameContents (stateAfter pool (take 1 (commands asked)) .pool) (read (batch pool asked answers .pool))
-unfolding Lines.opened stateAfter lines pool asked answers nth
+unfolding Lines.opened stateAfter lines pool asking asked answers asks nth
 gives-back = rollback-gives-back-bytes applies refl
 
 -- The second record's handle is refused for ever.
 refused-for-ever : (d : List ℕ) → Calls (batch pool asked answers .pool) d → RefusedOn d 2 2
-unfolding Lines.opened stateAfter lines pool asked answers nth
+unfolding Lines.opened stateAfter lines pool asking asked answers asks nth
 refused-for-ever d l = added-refused applies refl second .ever-after d l

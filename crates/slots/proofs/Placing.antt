@@ -21,12 +21,13 @@ use Rattle.meaning.specs.Change.{byKeyIn}
 use Rattle.meaning.specs.Cursor.{beyond}
 use Rattle.meaning.specs.Command.{past}
 use Rattle.meaning.specs.WellFormed.{WellFormed}
+use Rattle.meaning.specs.Places.{Stands}
 use Rattle.meaning.proofs.Cursors.{all-slots}
 use Rattle.meaning.proofs.Members.{lives}
 use Rattle.meaning.proofs.NewKeys.{past-says}
 use Rattle.slots.specs.Image.{textBytes, bodyOf}
 use Rattle.slots.proofs.Bodies.{body-rows}
-use Rattle.slots.proofs.Standing.{Seat, seat-list, seat-live, seated-body, seat-fits, beyond-seat}
+use Rattle.slots.proofs.Standing.{seat-list, seat-live, seated-body, seat-fits, beyond-seat}
 
 -- where a record beside another goes, if its key lies strictly between the record and its neighbour: there the search for the key ends
 pub record Place (p : Pool) (t k : ℕ) (spot : ℕ × Dir) : Type 0 where
@@ -38,7 +39,7 @@ next-first : (cmp : ℕ → Ordering) (o : Ordering) (l : List ℕ) → All (λ 
 next-first cmp o [] a h = last
 next-first cmp o (n ∷ l) (more f a) h = next (h f)
 
-module _ (p : Pool) (v : WellFormed p) (t : ℕ) (low : 1 ≤ t) (high : t ≤ length (p .trees)) (d : Dir) (x : ℕ) (w : Seat d x (treeAt p t)) where
+module _ (p : Pool) (v : WellFormed p) (t : ℕ) (low : 1 ≤ t) (high : t ≤ length (p .trees)) (d : Dir) (x : ℕ) (w : Stands d x (treeAt p t)) where
   -- no slot beyond the record is 0
   slots-beyond : All (λ y. y ≡ 0 → ⊥) (list (flip d) (w .near) ++ after (flip d) (w .way))
   slots-beyond =
@@ -52,9 +53,9 @@ module _ (p : Pool) (v : WellFormed p) (t : ℕ) (low : 1 ≤ t) (high : t ≤ l
   entry-seat k h this that =
       let rest = list (flip d) (w .near) ++ after (flip d) (w .way) in
       let e : beyond d p t x ≡ first rest = beyond-seat p v t low high d x w in
-      ap (entry (byKeyIn p k)) (sym (w .is))
+      ap (entry (byKeyIn p k)) (w .is)
       ∙ between-entry (keys (keyAt p)) (byKeyIn p k) (key-exact (keyAt p) k .follows) d (w .near) x (w .bal) (w .far) (w .way)
-      (subst (λ (u : Tree). Sorted (lessKey (keyAt p)) (list left u)) (sym (w .is)) (v .trees t low high .keys-rise))
+      (subst (λ (u : Tree). Sorted (lessKey (keyAt p)) (list left u)) (w .is) (v .trees t low high .keys-rise))
       (past-says p d x k this (λ i. omega (arith, lives p t x h .low)))
       (next-first (byKeyIn p k) (toward (flip d)) rest slots-beyond
       (past-says p (flip d) (first rest) k (subst (λ (y : ℕ). past p (flip d) y k ≡ true) e that)))

@@ -40,3 +40,4 @@
 //     a tree answers as the sorted list of its slots                 Answers
 //     the order by u64 keys                                          Keys
 //     computed shapes: P1 to P6, and runs from the pointer code      Shapes, Runs
+#![tactic(auto)]

@@ -9,7 +9,7 @@ use judge::verdict::judge;
 use slots::head::{load, store};
 
 // The code, 0 for done, and the number of commands answered.
-#[derive(Drop)]
+#[derive(Clone, Copy)]
 pub struct Outcome {
     pub code: u8,
     pub answered: u16,

@@ -7,6 +7,8 @@
 // | door.rt | the door: header and length, answers, soundness; then the commands        |
 // | run.rt  | the commands in turn, the journal of a mark, and the rollback at the end  |
 // | turn.rt | what a turn of that loop does beside the command: tree, answer, journal   |
+#![tactic(auto)]
+
 pub mod door;
 mod run;
 mod turn;

@@ -18,6 +18,8 @@
 //
 // An answer's line is `code kind slot stamp key start length`. The buffer of the answers has 255s when
 // the door is called, and COUNT is how many of its bytes behind the answers are still 255.
+#![tactic(auto)]
+
 ghost use Rattle.std.specs.Prelude.{◌≤◌};
 
 use batch::door::batch;

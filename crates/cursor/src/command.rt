@@ -11,7 +11,7 @@ use slots::record::Record;
 use tree::dir::Dir;
 use tree::node::get_key;
 
-#[derive(Drop)]
+#[derive(Clone, Copy)]
 pub struct Command {
     pub key: u64,
     pub stamp: u32,

@@ -14,7 +14,7 @@ use tree::dir::Dir;
 use tree::insert::Spot;
 use tree::walk::walk_dir;
 
-#[derive(Drop)]
+#[derive(Clone, Copy)]
 pub enum Cursor {
     Nowhere,
     // at a record
@@ -27,7 +27,7 @@ pub enum Cursor {
 
 // What comes of the cursor by a command. Results hold this and no cursor: two bytes, where copies of a
 // cursor from one struct to another would read across bytes just written and wait for them.
-#[derive(Drop)]
+#[derive(Clone, Copy)]
 pub enum Next {
     Gone,
     Kept,

@@ -7,6 +7,8 @@
 // | cursor.rt  | the one cursor, after entry.rs: a value that each step takes and gives back      |
 // | result.rt  | what a command has done, as its function hands it back                           |
 // | state.rt   | the state of a batch: numbers, cursor and mark; and the state after a command    |
+#![tactic(auto)]
+
 pub mod command;
 pub mod cursor;
 pub mod result;

@@ -4,7 +4,7 @@ use super::cursor::Next;
 use tree::node::AvlTree;
 
 // A command that shows a record: its slot, the code, and what comes of the cursor.
-#[derive(Drop)]
+#[derive(Clone, Copy)]
 pub struct Sight {
     pub slot: u16,
     pub code: u8,
@@ -27,7 +27,7 @@ pub mod change {
 // An addition or a removal: its answer, what comes of the cursor, and the rest of the change: the command's
 // tree and the lowest free slot after it. The record's fields stand in it one by one: as a struct in it
 // they would cost a copy with padding.
-#[derive(Drop)]
+#[derive(Clone, Copy)]
 pub struct Step {
     pub key: u64,
     pub stamp: u32,

@@ -13,7 +13,7 @@ use tree::node::AvlTree;
 use tree::remove::less;
 
 // Whether a mark is open, and text used when it was opened, 0 where none is.
-#[derive(Drop)]
+#[derive(Clone, Copy)]
 pub struct Mark {
     pub used: u32,
     pub is_open: bool,
@@ -28,7 +28,7 @@ impl Mark {
 
 // The head's numbers, the cursor and the mark. The tree table stands beside it, in an array that stays
 // where it is.
-#[derive(Drop)]
+#[derive(Clone, Copy)]
 pub struct Batch {
     pub numbers: Numbers,
     pub cursor: Cursor,

@@ -3,6 +3,8 @@
 // Every public function is total and has no `requires`: a place that does not lie wholly within the slice
 // reads as 0 or as empty, and a store there changes nothing. Each promise is an equation with a
 // definition of specs/Number.antt or specs/Part.antt.
+#![tactic(auto)]
+
 mod number;
 mod part;
 

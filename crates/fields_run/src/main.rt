@@ -1,6 +1,8 @@
 // Stores and reads at the limits of a slice of 16 bytes, and prints what is left: numbers of each
 // width, places that lie partly or wholly outside, a copy, zeros and the test for zeros. What it
 // prints is compared with the file `stdout` beside src/.
+#![tactic(auto)]
+
 use console::print;
 
 // The bytes of `b` in hexadecimal, on a line.

@@ -1,6 +1,8 @@
 // Format: the numbers of a pool, a batch and its answers by name, as docs/REFERENCE.md gives them, and rows of
 // tests in one expression (test.rt). Offsets and sizes are in bytes; an offset counts from the start of the
 // part that it is in.
+#![tactic(auto)]
+
 pub mod test;
 
 // The header of a pool. The fields TABLE, RECORDS and TEXT hold the offsets of what follows it.

@@ -4,6 +4,8 @@
 // undoes the first n entries on the body and the head of crate `slots` and cuts the text back to where it was
 // at the mark: an equation with `roll_back_n` of specs/Journal.antt. If the entries are the changes of the open
 // mark of a pool of `meaning`, body and head are then those of its `rollback` (proofs/Unrolling.antt).
+#![tactic(auto)]
+
 ghost use Rattle.std.specs.Prelude.{◌≡◌, ◌≤◌};
 ghost use Rattle.journal.specs.Journal.{no_entry, undo_one_n, undo_n, roll_back_n};
 
@@ -12,7 +14,7 @@ use slots::head::Head;
 use slots::record::{Record, record_at};
 
 // One change: the record was added to the slot, or this record was removed from it.
-#[derive(Drop)]
+#[derive(Clone, Copy)]
 pub struct Entry {
     pub key: u64,
     pub stamp: u32,

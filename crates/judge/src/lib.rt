@@ -9,6 +9,8 @@
 // | walk.rt    | the pass over a tree's links                                                            |
 //
 // Stack only: the deepest calls are check_link and check_record in turn, 14 levels.
+#![tactic(auto)]
+
 mod rows;
 pub mod verdict;
 mod walk;

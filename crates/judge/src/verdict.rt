@@ -12,7 +12,7 @@ use format::test::both;
 use format::{code, entry, header, record};
 
 // Whether all is good, and then how many records are live and the lowest free slot, 0 for none.
-#[derive(Drop)]
+#[derive(Clone, Copy)]
 pub struct Judged {
     pub ok: bool,
     pub live: u16,

@@ -19,7 +19,7 @@ const WORD_TREE: u64 = 72_057_594_037_927_936;
 
 // What is the same for all records of a tree: the number of slots, the tree's own, the ground. Numbers of one
 // width, so that a copy has no gaps.
-#[derive(Drop)]
+#[derive(Clone, Copy)]
 struct Tree {
     slots: u64,
     number: u64,

@@ -9,6 +9,8 @@
 // | text.rt  | a byte, a text, a number, numbers, bytes in hexadecimal                    |
 // | line.rt  | the first line, a record's line, a tree's lines, those of all trees        |
 // | whole.rt | the listing                                                                |
+#![tactic(auto)]
+
 mod line;
 mod text;
 mod whole;

@@ -1,5 +1,7 @@
 // The listing program: reads a pool from standard input and prints its listing. What lies behind the
 // first 65,536 bytes is not read: no pool is so long, and the bytes read are then refused.
+#![tactic(auto)]
+
 use console::{print, read, space};
 use lines::listing;
 

@@ -1,6 +1,8 @@
 // The listings of several pools, which stand one behind the other in the standard input: a length of
 // four bytes, then as many bytes. What it prints is compared with the file `stdout` beside src/, which
 // tools/pools.py works out from the layout alone.
+#![tactic(auto)]
+
 use console::{print, read, space};
 use lines::listing;
 

@@ -42,3 +42,4 @@
 //     the same, as answered  Answers, ToldShuts: ToldHandles, ToldGone, ToldPlans; a batch: ToldCase
 //
 // docs/AUDIT.md leads to the theorems from the auditor's two questions, docs/DEMANDS.md from the demands.
+#![tactic(auto)]

@@ -9,7 +9,7 @@ use format::{entry, header, record};
 use judge::verdict::is_sound;
 
 // A part of the pool: the place of its first byte, and its length.
-#[derive(Drop)]
+#[derive(Clone, Copy)]
 pub struct Place {
     pub at: u32,
     pub len: u16,

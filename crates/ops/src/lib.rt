@@ -13,6 +13,8 @@
 // | add.rt     | the ops that add one: 1, 16 to 20, 24, 25                                        |
 // | mark.rt    | mark, rollback, commit, reset: 26 to 29                                          |
 // | perform.rt | one command, by its op                                                           |
+#![tactic(auto)]
+
 mod add;
 mod ending;
 mod look;

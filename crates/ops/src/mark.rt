@@ -10,7 +10,7 @@ use slots::head::Head;
 
 // What a command that shows, adds and removes nothing has done: the head and the mark after it, its code,
 // and what is to be journalled.
-#[derive(Drop)]
+#[derive(Clone, Copy)]
 pub struct Settled {
     pub head: Head,
     pub mark: Mark,

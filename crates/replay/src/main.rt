@@ -18,6 +18,8 @@
 // run: a sum, in hexadecimal, that starts from START and takes in, by `mix`, the code of create, and for each
 // command the door's code and number answered, the three words of the answer, and all words of the pool
 // before its text: header, tree table and records, so every link and balance. A word is eight bytes.
+#![tactic(auto)]
+
 mod shown;
 mod sums;
 
@@ -40,7 +42,7 @@ mod mode {
 }
 
 // How a run is printed, where its pool's text starts, and how long its pool is.
-#[derive(Drop)]
+#[derive(Clone, Copy)]
 struct Frame {
     mode: u8,
     text: usize,

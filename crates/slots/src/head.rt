@@ -6,7 +6,7 @@ use format::{entry, header, limit};
 use tree::node::AvlTree;
 
 // The header's numbers. Its fields fill it, so that a copy moves no padding.
-#[derive(Drop)]
+#[derive(Clone, Copy)]
 pub struct Numbers {
     // N and T
     pub slots: u16,
@@ -21,7 +21,7 @@ pub struct Numbers {
     pub next: u32,
 }
 
-#[derive(Drop)]
+#[derive(Clone, Copy)]
 pub struct Head {
     pub numbers: Numbers,
     // the trees, from tree 1 on; an empty one beyond T

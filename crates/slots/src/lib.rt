@@ -15,6 +15,8 @@
 // | change.rt  | a record into a slot and its tree and out of both, a new record's name and     |
 // |            | stamp, reset, the text cut back                                                |
 // | answer.rt  | an answer written                                                              |
+#![tactic(auto)]
+
 pub mod answer;
 pub mod change;
 pub mod head;

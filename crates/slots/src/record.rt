@@ -4,7 +4,7 @@ ghost use Rattle.slots.specs.Record.{no_record, record_n, fill_n, clear_n, lowes
 
 use format::record;
 
-#[derive(Drop)]
+#[derive(Clone, Copy)]
 pub struct Record {
     pub key: u64,
     pub stamp: u32,

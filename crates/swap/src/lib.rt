@@ -32,3 +32,4 @@
 //     a tree that fits has few enough levels                         Size
 //     the theorem: rust-removal-is-ours, in the words of Claim       Same
 //     two small removals, computed: a direct child and a deeper one  Cases
+#![tactic(auto)]

@@ -6,7 +6,7 @@ use super::dir::Dir;
 use super::node::{AvlTree, parent_direction};
 
 // Where a climb goes on, or that it is done.
-#[derive(Drop)]
+#[derive(Clone, Copy)]
 pub struct Step {
     pub done: bool,
     pub tree: AvlTree,

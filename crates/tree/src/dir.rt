@@ -6,7 +6,7 @@ ghost use Rattle.tree.specs.Node.{way, offset, child};
 use format::{balance, link};
 
 // false is left
-#[derive(Drop)]
+#[derive(Clone, Copy)]
 pub struct Dir(pub bool);
 
 impl Dir {

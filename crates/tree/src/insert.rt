@@ -92,7 +92,7 @@ pub fn insert(nodes: &mut [u8], t: AvlTree, x: u16, p: u16, d: Dir) -> AvlTree
 }
 
 // An empty place: the record that it hangs below, and its side.
-#[derive(Drop)]
+#[derive(Clone, Copy)]
 pub struct Spot {
     pub parent: u16,
     pub side: Dir,

@@ -39,6 +39,8 @@
 // | _remove                             | remove::remove               | finds parent and side itself; `remove1` for at    |
 // |                                     |                              | most one child, `remove2` for two                 |
 // | _post_remove                        | remove::post_remove          | the loop's body is `shrink_step`                  |
+#![tactic(auto)]
+
 pub mod climb;
 pub mod dir;
 pub mod insert;

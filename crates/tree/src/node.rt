@@ -7,14 +7,14 @@ use super::dir::Dir;
 use format::{balance, link, record};
 
 // A tree: its topmost record, 0 for none, and how many records it has.
-#[derive(Drop)]
+#[derive(Clone, Copy)]
 pub struct AvlTree {
     pub root: u16,
     pub count: u16,
 }
 
 // What a search reads of a record: its key and its two children.
-#[derive(Drop)]
+#[derive(Clone, Copy)]
 pub struct Node {
     pub key: u64,
     pub left: u16,

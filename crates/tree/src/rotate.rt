@@ -31,7 +31,7 @@ use format::balance;
 
 // What a rotation gives: the tree, and whether a climb stops here, the height being as it was or this
 // the root.
-#[derive(Drop)]
+#[derive(Clone, Copy)]
 pub struct Rotated {
     pub tree: AvlTree,
     pub level: bool,

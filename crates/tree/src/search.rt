@@ -11,7 +11,7 @@ use format::limit;
 
 // Where a search ends: the record found or 0, the record above it, the side on which it hangs (right
 // on an empty tree), and how many keys were compared.
-#[derive(Drop)]
+#[derive(Clone, Copy)]
 pub struct Place {
     pub slot: u16,
     pub parent: u16,

@@ -7,6 +7,8 @@
 // | zt_check  | check  | the code                                                                       |
 // | zt_batch  | batch  | the code in bits 0 to 7, the number answered in bits 8 to 23                   |
 // | zt_name   | name   | the name's offset in bits 0 to 31, its length in bits 32 to 63; 0 when refused |
+#![tactic(auto)]
+
 ghost use Rattle.std.specs.Prelude.{◌≡◌};
 ghost use Rattle.meaning.specs.Doors.{create, check};
 ghost use Rattle.zimatuno.specs.Abi.{batch_in_c, name_in_c};

@@ -12,7 +12,7 @@ use Rattle.avl.specs.Order.{All, Sorted, Order, Exact, Compares, into, out, soug
 use Rattle.avl.proofs.Balance.{insert_balanced, remove_balanced}
 use Rattle.avl.proofs.Height.{levels_14}
 use Rattle.avl.proofs.Lists.{insert_list}
-use Rattle.avl.proofs.Removal.{remove_list_lem}
+use Rattle.avl.proofs.Removal.{remove_list}
 use Rattle.avl.proofs.Search.{Met, met, Ends, seek_plug, entry_ends, entry_list, compared_levels}
 use Rattle.avl.proofs.Sorting.{all_map, sorted_below, sorted_above, Says, into_at, into_met, out_at, out_none, sought_at, sought_none, sorted_into, sorted_out}
 use Rattle.avl.proofs.Walks.{beside_plug}
@@ -74,7 +74,7 @@ module _ (o : Order) (cmp : ℕ → Ordering) (exact : Exact o cmp) (t : Tree) (
     where
       go : {f : Spot} → Outcome cmp (list left t) f → list left (taking f.part f.way t) ≡ out cmp (list left t)
       go (vacant e g l) = e ∙ sym (ap (out cmp) e ∙ out_none cmp _ _ g l)
-      go (occupied {a = a} {b = b} {z = z} {p = p} e g m l) = remove_list_lem left a b z p ∙ sym (ap (out cmp) e ∙ out_at cmp _ _ _ g m)
+      go (occupied {a = a} {b = b} {z = z} {p = p} e g m l) = remove_list left a b z p ∙ sym (ap (out cmp) e ∙ out_at cmp _ _ _ g m)
 
   -- both keep the list sorted
   pub add-sorted : (x : ℕ) → Compares o x cmp → Sorted o.less (list left (add cmp x t))

@@ -31,9 +31,9 @@ pub list_sorted : {R : ℕ → ℕ → Type 0} (e : Dir) (t : Tree) → Sorted R
 list_sorted left t h = h
 list_sorted {R = R} right t h = subst (Sorted (λ x y. R y x)) (sym (list_flip left t)) (sorted_reverse (list left t) h)
 
-from_flip_lem : (R : ℕ → ℕ → Type 0) (d : Dir) (x y : ℕ) → From (flip d) R y x → From d R x y
-from_flip_lem R left x y h = h
-from_flip_lem R right x y h = h
+from_flip : (R : ℕ → ℕ → Type 0) (d : Dir) (x y : ℕ) → From (flip d) R y x → From d R x y
+from_flip R left x y h = h
+from_flip R right x y h = h
 
 -- ---- strictly between a record and its neighbour
 
@@ -58,7 +58,7 @@ between_entry o cmp f d a s b z p h here there =
     let sorted : Sorted (From e o.less) (front ++ (s ∷ rest)) =
     subst (Sorted (From e o.less)) (walk_list d a s b z p) (list_sorted e (plug p (branch d a s b z)) h) in
     let low : Says cmp (toward d) (front ++ (s ∷ [])) =
-    all_append (all_map (λ y r. f.on d s y (from_flip_lem o.less d s y r) here) (sorted_below front s rest sorted)) (more here nil) in
+    all_append (all_map (λ y r. f.on d s y (from_flip o.less d s y r) here) (sorted_below front s rest sorted)) (more here nil) in
     let high : Says cmp (toward e) rest = next_says o cmp f e rest (sorted_tail (sorted_back front (s ∷ rest) sorted)) there in
     entry_beside cmp d a s b z p
     (subst (Says cmp (toward d)) (append_assoc (before e p) (list e z) (s ∷ []) ∙ sym (beside_before d a s b z p)) low)

@@ -172,15 +172,15 @@ pub node_list : (e : Dir) (l : Tree) (s : ℕ) (b : Bal) (r : Tree) (p : Way)
 node_list e l s b r p = list_plug e p (node l s b r) ∙ simp (node_branch e l s b r, list_near, append_assoc)
 
 -- and the list without it
-pub remove_list_lem : (e : Dir) (l : Tree) (b : Bal) (r : Tree) (p : Way)
+pub remove_list : (e : Dir) (l : Tree) (b : Bal) (r : Tree) (p : Way)
     → list e (remove l b r p) ≡ (before e p ++ list e (pick e l r)) ++ (list e (pick e r l) ++ after e p)
 unfolding remove
-remove_list_lem e leaf b r p =
+remove_list e leaf b r p =
     climb_list shrunk shrunk_list e p r ∙ list_plug e p r ∙ ap (λ (l : List ℕ). before e p ++ (l ++ after e p)) (sym (one_part e r)) ∙ simp append_assoc
-remove_list_lem e (node l s c k) b leaf p =
+remove_list e (node l s c k) b leaf p =
     let t = node l s c k in
     climb_list shrunk shrunk_list e p t ∙ list_plug e p t ∙ ap (λ (l : List ℕ). before e p ++ (l ++ after e p)) (sym (one_part' e t)) ∙ simp append_assoc
-remove_list_lem e (node l s c k) b (node l₂ s₂ c₂ k₂) p = go (taken b) ∙ simp append_assoc
+remove_list e (node l s c k) b (node l₂ s₂ c₂ k₂) p = go (taken b) ∙ simp append_assoc
   where
     t : Tree
     t = node l s c k

@@ -120,9 +120,9 @@ list_near d a s b z = list_branch d d a s b z ∙ alike_same d _ _
 pub list_far : (d : Dir) (a : Tree) (s : ℕ) (b : Bal) (z : Tree) → list (flip d) (branch d a s b z) ≡ list (flip d) z ++ (s ∷ list (flip d) a)
 list_far d a s b z = list_branch (flip d) d a s b z ∙ alike-reverse d _ _
 
-pub top_branch_lem : (d : Dir) (a : Tree) (s : ℕ) (b : Bal) (z : Tree) → top (branch d a s b z) ≡ s
+pub top_branch : (d : Dir) (a : Tree) (s : ℕ) (b : Bal) (z : Tree) → top (branch d a s b z) ≡ s
 unfolding branch
-top_branch_lem d a s b z = refl
+top_branch d a s b z = refl
 
 pub size_branch : (d : Dir) (a : Tree) (s : ℕ) (b : Bal) (z : Tree) → size (branch d a s b z) ≡ suc (size a + size z)
 unfolding branch size

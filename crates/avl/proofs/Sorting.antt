@@ -68,15 +68,15 @@ sorted_once o a x b h =
 
 -- ---- backwards
 
-all_reverse_lem : {P : ℕ → Type 0} (l : List ℕ) → All P l → All P (reverse l)
-all_reverse_lem [] h = nil
-all_reverse_lem {P = P} (x ∷ l) (more p h) = subst (All P) (sym (reverse-cons x l)) (all_append (all_reverse_lem l h) (more p nil))
+all_reverse : {P : ℕ → Type 0} (l : List ℕ) → All P l → All P (reverse l)
+all_reverse [] h = nil
+all_reverse {P = P} (x ∷ l) (more p h) = subst (All P) (sym (reverse-cons x l)) (all_append (all_reverse l h) (more p nil))
 
 pub sorted_reverse : {R : ℕ → ℕ → Type 0} (l : List ℕ) → Sorted R l → Sorted (λ x y. R y x) (reverse l)
 sorted_reverse [] h = nil
 sorted_reverse {R = R} (x ∷ l) (rise p h) =
     subst (Sorted (λ u v. R v u)) (sym (reverse-cons x l))
-    (sorted_append (sorted_reverse l h) (rise nil nil) (all_map (λ y r. more r nil) (all_reverse_lem l p)))
+    (sorted_append (sorted_reverse l h) (rise nil nil) (all_map (λ y r. more r nil) (all_reverse l p)))
 
 -- ---- a slot put in, sought and taken out
 

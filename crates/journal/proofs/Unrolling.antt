@@ -57,7 +57,7 @@ text_whole p =
 
 text_bytes_lem : (p : Pool) → WellFormed p → Bytes (text_bytes p)
 unfolding text_bytes
-text_bytes_lem p w = let n = p.size - length p.text in bytes_append p.text (replicate n 0) w.text_bytes_lem (bytes_zeros n)
+text_bytes_lem p w = let n = p.size - length p.text in bytes_append p.text (replicate n 0) w.text_bytes (bytes_zeros n)
 
 -- the same body
 body_wide : (p : Pool) → body_of (widened p) ≡ body_of p
@@ -84,7 +84,7 @@ wide_good p w =
       trees_high = w.trees_high;
       size_high = w.size_high;
       used_fits = omega arith;
-      text_bytes_lem = text_bytes_lem p w;
+      text_bytes = text_bytes_lem p w;
       next_low = omega arith;
       next_high = omega arith;
       recs = λ x r e. rec_moves (omega arith) (omega (arith, w.used_fits)) (omega (arith, w.next_high)) (w.recs x r e);

@@ -195,7 +195,7 @@ module _ (m : List ℕ) (all : Bytes m) (N t x lo hi h : ℕ) (s : 1 ≤ x) (ins
   pub record Twig : Type 0 where
     pub low : b ≤ 2
     pub left_in : l ≤ N
-    pub right_in_lem : r ≤ N
+    pub right_in : r ≤ N
     pub left_high : hl + b % 2 + 1 ≡ h
     pub right_high : hr + b / 2 + 1 ≡ h
     pub left_fits : left_leaf ≡ true
@@ -211,7 +211,7 @@ module _ (m : List ℕ) (all : Bytes m) (N t x lo hi h : ℕ) (s : 1 ≤ x) (ins
       record {
         low = f.low;
         left_in = i;
-        right_in_lem = j;
+        right_in = j;
         left_high = omega (arith, f.left_high, p.1);
         right_high = omega (arith, f.right_high, q.1);
         left_fits = p.0;
@@ -222,7 +222,7 @@ module _ (m : List ℕ) (all : Bytes m) (N t x lo hi h : ℕ) (s : 1 ≤ x) (ins
   some_twig : Twig → 2 + (hl + hr) ≡ twig
   some_twig w =
       let p = left_part w.left_in ∙ ap (λ (k : Bool). cond k (256 * (1 + hl) + hl) 0) w.left_fits in
-      let q = right_part w.right_in_lem ∙ ap (λ (k : Bool). cond k (256 * (1 + hr) + hr) 0) w.right_fits in
+      let q = right_part w.right_in ∙ ap (λ (k : Bool). cond k (256 * (1 + hr) + hr) 0) w.right_fits in
       let a : hl ≤ 1 = pick_bit l hle in
       let c : hr ≤ 1 = pick_bit r hre in
       let e = sized_is P hl (omega (arith, p)) in
@@ -239,7 +239,7 @@ module _ (m : List ℕ) (all : Bytes m) (N t x lo hi h : ℕ) (s : 1 ≤ x) (ins
       where
         good : Twig → f ≡ true
         good w =
-            fe ∙ both_true c e (ce ∙ both_true (leb l N) (leb r N) (le-leb l N w.left_in) (le-leb r N w.right_in_lem))
+            fe ∙ both_true c e (ce ∙ both_true (leb l N) (leb r N) (le-leb l N w.left_in) (le-leb r N w.right_in))
             (ee ∙ both_true (leb b 2) d (le-leb b 2 w.low)
             (de ∙ both_true (eqb (hl + b % 2 + 1) h) (eqb (hr + b / 2 + 1) h) (eq-eqb (hl + b % 2 + 1) h w.left_high) (eq-eqb (hr + b / 2 + 1) h w.right_high)))
 
@@ -251,7 +251,7 @@ module _ (m : List ℕ) (all : Bytes m) (N t x lo hi h : ℕ) (s : 1 ≤ x) (ins
           record {
             low = leb-true b 2 g.0;
             left_in = (shaped_in N l r ce ee fe z).0;
-            right_in_lem = (shaped_in N l r ce ee fe z).1;
+            right_in = (shaped_in N l r ce ee fe z).1;
             left_high = eqb-true (hl + b % 2 + 1) h k.0;
             right_high = eqb-true (hr + b / 2 + 1) h k.1;
             left_fits = p;

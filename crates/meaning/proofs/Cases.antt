@@ -10,7 +10,7 @@ use Rattle.meaning.specs.Pool.{bytes, read}
 use Rattle.meaning.specs.Sound.{sound}
 use Rattle.meaning.specs.Doors.{Outcome}
 use Rattle.meaning.proofs.Lines
-use Rattle.meaning.proofs.Lines.{Line, ◌⇒◌, add, adds, get, remove_by_key_lem, remove_handle, next, prev, last_entry, append, mark, rollback, refused◌kind◌, kind_nothing, kind◌slot◌stamp◌key◌text◌, replies, batch_of, letters, fresh, outcome, same}
+use Rattle.meaning.proofs.Lines.{Line, ◌⇒◌, add, adds, get, remove_by_key_lem, remove_handle, next, prev, last_entry, append, mark, rollback, refused◌kind◌, kind◌nothing, kind◌slot◌stamp◌key◌text◌, replies, batch_of, letters, fresh, outcome, same}
 
 -- key, balance, left, right; a missing child is "-"
 infix 70 ◌⟨◌⟩◌/◌

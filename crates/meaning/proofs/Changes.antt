@@ -45,7 +45,7 @@ trees_good p s u w a b g f = record {
   trees_high = omega (arith, w.trees_high);
   size_high = w.size_high;
   used_fits = w.used_fits;
-  text_bytes_lem = w.text_bytes_lem;
+  text_bytes = w.text_bytes;
   next_low = w.next_low;
   next_high = w.next_high;
   recs = λ x r e. rec_moves (omega arith) (omega arith) (omega arith) (g x r e);
@@ -147,7 +147,7 @@ module _ (p : Pool) (t k : ℕ) (name : List ℕ) (w : WellFormed p) (h : Addabl
         trees_high = w.trees_high;
         size_high = w.size_high;
         used_fits = omega (arith, h.text);
-        text_bytes_lem = bytes_append p.text name w.text_bytes_lem h.name_bytes;
+        text_bytes = bytes_append p.text name w.text_bytes h.name_bytes;
         next_low = omega arith;
         next_high = omega (arith, h.stamp, w.next_high);
         recs = λ x r e. rec_moves (omega arith) (omega arith) (omega arith) (w.recs x r e);
@@ -185,7 +185,7 @@ empty_good N T X n h =
       trees_high = omega arith;
       size_high = h.4;
       used_fits = omega arith;
-      text_bytes_lem = record { below = λ i. omega arith };
+      text_bytes = record { below = λ i. omega arith };
       next_low = h.5;
       next_high = h.6;
       recs = λ x r e. absurd (not_both (at none (replicate N none) x) e (at_replicate none N x));

@@ -77,7 +77,7 @@ alike_good p q w a f t u b n m =
       trees_high = omega (arith, w.trees_high, a.trees);
       size_high = omega (arith, w.size_high, a.size);
       used_fits = u;
-      text_bytes_lem = b;
+      text_bytes = b;
       next_low = omega (arith, w.next_low);
       next_high = m;
       recs = λ x r e. rec_moves (omega (arith, a.trees)) t n (w.recs x r (sym (alike_rec a x) ∙ e));
@@ -92,7 +92,7 @@ undone {p₀} {cs} s q a w t n g =
     let u = undone_formed s q a (formed g) in
     let k = undo_keeps cs q in (
       u.0,
-      alike_good p₀ (undo cs q) w u.0 u.1 (rw k.text t) (rw (k.text, k.size) g.used_fits) (rw k.text g.text_bytes_lem)
+      alike_good p₀ (undo cs q) w u.0 u.1 (rw k.text t) (rw (k.text, k.size) g.used_fits) (rw k.text g.text_bytes)
           (rw k.next n) (rw k.next g.next_high),
     )
 
@@ -125,7 +125,7 @@ module _ (p₀ : Pool) (m : Mark) (p : Pool) (w₀ : WellFormed p₀) (w : WellF
   rollback_good =
       let l = ap length rolled_text in
       alike_good p₀ (rollback m p) w₀ rolled_alike rolled_formed (omega arith) (omega (arith, w₀.used_fits, rolled_alike.size))
-      (subst Bytes rolled_text w₀.text_bytes_lem) (rw rolled_next h.next) (rw rolled_next w.next_high)
+      (subst Bytes rolled_text w₀.text_bytes) (rw rolled_next h.next) (rw rolled_next w.next_high)
 
 -- rolled back, or left where no mark is open, a pool is well-formed
 pub rolled_good : (w : Option Pool) (m : Option Mark) (p : Pool) → WellFormed p → Journal w m p → WellFormed (rolled_back m p)

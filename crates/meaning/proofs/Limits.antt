@@ -7,7 +7,7 @@ use lib.Dec.{eqb}
 use lib.ListN.{length, take, set, replicate}
 use Rattle.meaning.specs.Layout.{all, every}
 use Rattle.meaning.specs.Doors.{create, check, batch, Outcome, name}
-use Rattle.meaning.proofs.Lines.{Line, ◌⇒◌, op, ◌in_tree◌, ◌named◌long◌, add, remove_by_key_lem, mark, refused◌kind◌, kind_nothing, kind◌slot◌stamp◌key◌text◌, replies, batch_of, letters, fresh, outcome, same}
+use Rattle.meaning.proofs.Lines.{Line, ◌⇒◌, op, ◌in_tree◌, ◌named◌long◌, add, remove_by_key_lem, mark, refused◌kind◌, kind◌nothing, kind◌slot◌stamp◌key◌text◌, replies, batch_of, letters, fresh, outcome, same}
 use Rattle.meaning.proofs.Cases
 use Rattle.meaning.proofs.Cases.{pool1}
 

@@ -157,8 +157,8 @@ abbrev pub refused◌kind◌ : ℕ → ℕ → List ℕ
 refused e kind k = pack ((1, e) ∷ (1, k) ∷ (22, 0) ∷ [])
 
 -- done, and no record shown
-infix 70 kind_nothing
-abbrev pub kind_nothing : ℕ → List ℕ
+infix 70 kind◌nothing
+abbrev pub kind◌nothing : ℕ → List ℕ
 kind k nothing = pack ((1, 0) ∷ (1, k) ∷ (22, 0) ∷ [])
 
 -- done, and a record shown: slot, stamp, key, where in the text its name starts, and how long that is, if not one byte

@@ -164,7 +164,7 @@ pub bytes_are : (p : Pool) → WellFormed p → Bytes (bytes p)
 unfolding header_bytes
 bytes_are p v =
     let e = shape p in
-    let text = bytes_append p.text (replicate (p.size - length p.text) 0) v.text_bytes_lem (bytes_zeros (p.size - length p.text)) in
+    let text = bytes_append p.text (replicate (p.size - length p.text) 0) v.text_bytes (bytes_zeros (p.size - length p.text)) in
     let body = bytes_append (all_records p) (whole_text p) (bytes_records p 1 p.slots) text in
     rw e (bytes_append (header_bytes p) (all_entries p ++ (all_records p ++ whole_text p)) (bytes_pack _)
     (bytes_append (all_entries p) (all_records p ++ whole_text p) (bytes_entries p.trees) body))

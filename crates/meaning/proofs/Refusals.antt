@@ -10,7 +10,7 @@ use Rattle.avl.specs.Tree.{left, list}
 use Rattle.meaning.specs.Layout.{all, every, concat, span}
 use Rattle.meaning.specs.Pool.{read, tree_at, key_at}
 use Rattle.meaning.proofs.Lines
-use Rattle.meaning.proofs.Lines.{Line, ◌⇒◌, op, ◌in_tree◌, ◌named◌long◌, add, adds, get, remove_by_key_lem, remove_handle, next, prev, first, last, entry, first_entry, last_entry, peek_next, peek_prev, move_next, move_prev, insert_before, insert_after, insert_before_move, insert_after_move, insert_node, remove, remove_prev, remove_next, append, prepend, mark, rollback, commit, reset, refused◌kind◌, kind_nothing, kind◌slot◌stamp◌key◌text◌long◌, kind◌slot◌stamp◌key◌text◌, replies, batch_of, letters, fresh, outcome, same}
+use Rattle.meaning.proofs.Lines.{Line, ◌⇒◌, op, ◌in_tree◌, ◌named◌long◌, add, adds, get, remove_by_key_lem, remove_handle, next, prev, first, last, entry, first_entry, last_entry, peek_next, peek_prev, move_next, move_prev, insert_before, insert_after, insert_before_move, insert_after_move, insert_node, remove, remove_prev, remove_next, append, prepend, mark, rollback, commit, reset, refused◌kind◌, kind◌nothing, kind◌slot◌stamp◌key◌text◌long◌, kind◌slot◌stamp◌key◌text◌, replies, batch_of, letters, fresh, outcome, same}
 
 -- ---- the words of the table
 
@@ -55,8 +55,8 @@ infix 70 on◌run◌leave◌
 abbrev on◌run◌leave◌ : List ℕ → List Line → List ℕ → Row
 on b run ls leave ks = record { pool = b; lines = ls; keys = some ks }
 
-infix 70 on_run_unchanged
-abbrev on_run_unchanged : List ℕ → List Line → Row
+infix 70 on◌run◌unchanged
+abbrev on◌run◌unchanged : List ℕ → List Line → Row
 on b run ls unchanged = record { pool = b; lines = ls; keys = none }
 
 -- ops that add, each where it may and with a good key and name, all refused with one number; the cursor stays

@@ -11,7 +11,7 @@ use Rattle.meaning.specs.Calls.{Calls, none_more, one_more, shown_slot, shown_st
 use Rattle.meaning.specs.Told
 use Rattle.meaning.specs.Told.{answer_at, ToldMark, ToldAdded, ToldGoneOn}
 use Rattle.meaning.proofs.Lines
-use Rattle.meaning.proofs.Lines.{Line, ◌⇒◌, add, remove_handle, mark, rollback, refused◌kind◌, kind_nothing, kind◌slot◌stamp◌key◌text◌}
+use Rattle.meaning.proofs.Lines.{Line, ◌⇒◌, add, remove_handle, mark, rollback, refused◌kind◌, kind◌nothing, kind◌slot◌stamp◌key◌text◌}
 use Rattle.meaning.proofs.RollbackCase.{pool, asking, asks, are_bytes}
 use Rattle.meaning.proofs.ToldHandles.{added_gone_told}
 

@@ -31,7 +31,7 @@ pub record WellFormed (p : Pool) : Type 0 where
   pub trees_high : length p.trees ≤ 8
   pub size_high : p.size ≤ 8192
   pub used_fits : length p.text ≤ p.size
-  pub text_bytes_lem : Bytes p.text
+  pub text_bytes : Bytes p.text
   pub next_low : 1 ≤ p.next
   pub next_high : p.next < 256 ^ 4
   pub recs : (x : ℕ) (r : Rec) → rec_at p x ≡ some r → GoodRec p r

@@ -1,6 +1,7 @@
 // Printing. What is written no contract can say: each function is proved safe and to end.
 use crate::space;
-use libc::STDOUT_FILENO;
+// The number of standard output.
+const STDOUT_FILENO: i32 = 1;
 
 pub fn text(b: &[u8]) {
     io::write_all(STDOUT_FILENO, b);

@@ -3,7 +3,8 @@ ghost use Rattle.std.specs.Prelude.{◌≡◌, min, length};
 ghost use Rattle.io.specs.Counts.{IsPrefixLen};
 
 use crate::space;
-use libc::STDIN_FILENO;
+// The number of standard input.
+const STDIN_FILENO: i32 = 0;
 
 // Reads until the buffer is full or the input ends: how many bytes it put at the buffer's start.
 pub fn all(b: &mut [u8]) -> usize
@@ -17,7 +18,7 @@ pub fn all(b: &mut [u8]) -> usize
 // the bytes as they were.
 pub fn part(n: usize, b: &mut [u8]) -> usize
     ensures prefix_len { IsPrefixLen result b.new }
-    ensures value { result ≡ min n (length b.new) }
+    ensures count { result ≡ min n (length b.new) }
 {
     let k = space::within(n, b);
     io::read_full(STDIN_FILENO, &mut b[..k]);

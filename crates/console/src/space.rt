@@ -12,16 +12,16 @@ pub fn input() -> [u8; 65_536]
 
 // Room for the largest pool: 32 + 8 * 8 + 32 * 1,024 + 8,192 bytes.
 pub fn pool() -> [u8; 41_056]
-    ensures value { 41_056 ≡ length result }
-    ensures value_2 { result ≡ filled 41_056 0 }
+    ensures size { 41_056 ≡ length result }
+    ensures content { result ≡ filled 41_056 0 }
 {
     [0; 41_056]
 }
 
 // Room for the answers of the longest batch: 24 * 256 bytes.
 pub fn answers() -> [u8; 6_144]
-    ensures value { 6_144 ≡ length result }
-    ensures value_2 { result ≡ filled 6_144 0 }
+    ensures size { 6_144 ≡ length result }
+    ensures content { result ≡ filled 6_144 0 }
 {
     [0; 6_144]
 }
@@ -29,16 +29,16 @@ pub fn answers() -> [u8; 6_144]
 // Room for more than the answers of the longest batch, of bytes that are 255, so that what is not written can
 // be seen.
 pub fn marked_answers() -> [u8; 8_192]
-    ensures value { 8_192 ≡ length result }
-    ensures value_2 { result ≡ filled 8_192 255 }
+    ensures size { 8_192 ≡ length result }
+    ensures content { result ≡ filled 8_192 255 }
 {
     [255; 8_192]
 }
 
 // Room for the longest listing.
 pub fn text() -> [u8; 655_360]
-    ensures value { 655_360 ≡ length result }
-    ensures value_2 { result ≡ filled 655_360 0 }
+    ensures size { 655_360 ≡ length result }
+    ensures content { result ≡ filled 655_360 0 }
 {
     [0; 655_360]
 }
@@ -46,7 +46,7 @@ pub fn text() -> [u8; 655_360]
 // How many bytes of the slice the first `n` are: fewer, if it has fewer.
 pub fn within(n: usize, b: &[u8]) -> usize
     ensures prefix_len { IsPrefixLen result b.now }
-    ensures value { result ≡ min n (length b.now) }
+    ensures count { result ≡ min n (length b.now) }
 {
     if n < b.len() {
         return n;

@@ -1,0 +1,7 @@
+-- `reset`: zeros all over, and the head of none.
+use Rattle.slots.specs.Change.{emptied_n}
+use Rattle.slots.proofs.change.reset.Goals as goal
+
+pub returns : goal.returns
+unfolding emptied_n
+returns c = (cc)

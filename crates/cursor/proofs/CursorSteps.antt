@@ -30,11 +30,11 @@ other_case key = in_case (λ (c : Cursor). is_other key (entry_key c))
 -- ---- a vacant entry
 
 -- Any other cursor, by its number among the cases, has no place for a record.
-pub none_hung : (s : CodeCursor) → OneOf (0 ∷ 1 ∷ 3 ∷ 4 ∷ []) (tag_of the_type s) → (0, right) ≡ hung_n (cursor_of s)
+pub none_hung : (s : CodeCursor) → ((t x : ℕ) (d : CodeDir) (k : ℕ) → s ≡ Vacant t x d k → ⊥) → (0, right) ≡ hung_n (cursor_of s)
 unfolding hung_n
 none_hung Nowhere h = refl
 none_hung (Occupied t x) h = refl
-none_hung (Vacant t x d k) h = absurd (miss (0 ∷ 1 ∷ 3 ∷ 4 ∷ []) 2 tt h)
+none_hung (Vacant t x d k) h = absurd (h t x d k refl)
 none_hung (First t x) h = refl
 none_hung (Last t x) h = refl
 

@@ -74,7 +74,7 @@ end_slot e = by_side e Same none more
     more : (a : Tree) (k : ℕ) (c : Bal) (w : Tree) → Same a → Same w → Same (branch e a k c w)
     more a k c w ih _ s b z p q = simp end_branch (ih k c w (step e s b z p) (step e s b z q))
 
--- bottomChild is the first of the list
+-- bottom_child is the first of the list
 pub bottom_branch : (e : Dir) (a : Tree) (s : ℕ) (b : Bal) (z : Tree) (p : Way) → bottom_child e (branch e a s b z) ≡ (end e a s b z p).slot
 unfolding bottom_child branch
 bottom_branch left a s b z p = end_slot left a s b z root p

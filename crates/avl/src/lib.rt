@@ -6,7 +6,7 @@
 //
 //     the Rust                     here                                specs/
 //     Dir, DIR_LEFT, DIR_RIGHT     Dir, left, right                    Tree
-//     Dir::reverse, to_balance     flip, toBalance                     Tree
+//     Dir::reverse, to_balance     flip, to_balance                     Tree
 //     AvlNode's balance 0, 1, 2    Bal, its number is code             Tree
 //     a tree below a pointer       Tree, its pointer is top            Tree
 //     parents up to the root       Way, the innermost first            Way
@@ -16,13 +16,13 @@
 //     the loop of _insert          climb grown                         Rotate
 //     the loop of _post_remove     climb shrunk                        Rotate
 //     _insert                      insert                              Edit
-//     _insert_here                 insertHere, its place is beside     Edit
+//     _insert_here                 insert_here, its place is beside     Edit
 //     _remove                      remove (replace for two children)   Edit
-//     bottom_child                 bottomChild (end)                   Edit
+//     bottom_child                 bottom_child (end)                   Edit
 //     entry, get                   entry, get (seek)                   Search
-//     add, remove_by_key           add, removeByKey                    Search
-//     first, last                  bottomChild left, bottomChild right Edit
-//     _walk_dir                    walkDir (upwards)                   Search
+//     add, remove_by_key           add, remove_by_key                    Search
+//     first, last                  bottom_child left, bottom_child right Edit
+//     _walk_dir                    walk_dir (upwards)                   Search
 //     Ord of the records           Order, Follows, Exact               Order
 //
 // A Way is the stack of parents that the Rust climbs over, and plug puts a tree back at its place.

@@ -1,16 +1,15 @@
 -- What the loops of part.rt keep: a store that has come to byte i of what is to be stored, and a test that has passed i bytes. Assumes nothing.
 use mathlib.Core.Bool.{Bool, true, false, ◌&&◌, and-false}
-use mathlib.Core.List.{List, [], ◌∷◌, ◌++◌, append_assoc}
+use mathlib.Core.List.{List, ◌++◌, append_assoc}
 use mathlib.Core.Path.{◌≡◌, refl, sym, ap, ap₂, ◌∙◌}
-use Prim.Native.Nat.{ℕ, ◌+◌, ◌*◌, ◌-◌, ◌≤◌, ◌<◌}
+use Prim.Native.Nat.{ℕ, ◌+◌, ◌-◌, ◌≤◌, ◌<◌}
 use native.Mathlib.Numerals.{add-one}
 use native.Mathlib.Omega.{arith}
-use lib.Dec.{eqb}
 use lib.ListN.{length, take, drop, get_or, set, length-set}
 use lib.Seq.{paste, paste-zero, paste-suc, take-length}
-use borrow.Author.Tests.{eq-eqb, ne_eqb, eqb-true, eqb-false}
+use borrow.Author.Tests.{eq-eqb, ne_eqb}
 use Rattle.fields.specs.Part.{part, splice, zeros}
-use Rattle.fields.specs.Number.{value, get_le}
+use Rattle.fields.specs.Number.{get_le}
 use Rattle.fields.proofs.Parts.{splice_in, part_join, part_in, zeros_append}
 use Rattle.fields.proofs.Numbers.{zeros_value}
 

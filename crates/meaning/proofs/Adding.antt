@@ -1,5 +1,5 @@
 -- The ops that add: what one that is not refused may rely on. Its key is new in its tree, in one of four ways. Assumes nothing.
-use mathlib.Core.Bool.{true, false, not, ◌&&◌, cond}
+use mathlib.Core.Bool.{true, false, ◌&&◌, cond}
 use mathlib.Core.List.{List, [], ◌∷◌}
 use mathlib.Core.Option.{Option}
 use mathlib.Core.Path.{◌≡◌, refl, sym, ap, subst}

@@ -10,7 +10,7 @@ use lib.ListN.{length}
 use borrow.Author.Tests.{ltb-true, ltb-false, lt-ltb, le-ltb, ne_eqb}
 use Rattle.meaning.specs.Pool.{bytes, read}
 use Rattle.meaning.specs.Sound.{sound}
-use Rattle.meaning.specs.Command.{refuse◌at◌if◌, refusal}
+use Rattle.meaning.specs.Command.{refusal}
 use Rattle.meaning.specs.Doors.{fresh, sizes_ok, Created, create, check, n_commands, batch_ok, begun, batch_refusal, batch, removal, name}
 use Rattle.meaning.specs.Refused.{◌exactly_if◌}
 use Rattle.meaning.proofs.Facts.{test}

@@ -6,7 +6,6 @@ use Prim.Native.Nat.{ℕ}
 use lib.Dec.{leb, eqb}
 use lib.ListN.{length}
 use borrow.Author.Tests.{eqb-false, ne_eqb, not-true, eqb-true, eq-eqb, le-leb, not-false}
-use Rattle.avl.specs.Search.{entry}
 use Rattle.meaning.specs.Layout.{within}
 use Rattle.meaning.specs.Pool.{Rec, Pool, rec_at, lives_in}
 use Rattle.meaning.specs.Cursor.{Command, State}

@@ -8,7 +8,7 @@ use native.Mathlib.Omega.{arith}
 use lib.Dec.{leb, eqb}
 use lib.ListN.{length, get_or-eq_default}
 use borrow.Author.Tests.{eqb-true, eqb-false, leb-true, ne_eqb}
-use Rattle.avl.specs.Tree.{left, right, Bal, code, Tree, leaf, node, top, list}
+use Rattle.avl.specs.Tree.{left, Bal, code, Tree, leaf, node, top, list}
 use Rattle.avl.specs.Order.{All}
 use Rattle.avl.proofs.Sorting.{all_append}
 use Rattle.meaning.specs.Layout.{bit, all, count, at}

@@ -1,16 +1,16 @@
 -- The sections of a pool: its rows, each of its length and of bytes, and the fields of a row, read in place. Assumes nothing.
 use mathlib.Core.Bool.{true}
-use mathlib.Core.List.{List, [], ◌∷◌, ◌++◌}
+use mathlib.Core.List.{List, [], ◌∷◌}
 use mathlib.Core.Path.{◌≡◌, refl, sym, ap, ◌∙◌, subst}
 use Prim.Native.Nat.{ℕ, zero, suc, ◌+◌, ◌*◌, ◌^◌, ◌≤◌, ◌<◌}
 use native.Mathlib.Nat.{mul-suc, mul-le-mul_left}
 use native.Mathlib.Omega.{arith}
 use lib.Dec.{eqb}
-use lib.ListN.{length, get_or, take, drop, length-drop, take-append-drop}
+use lib.ListN.{length, get_or, take, drop, length-drop}
 use lib.Seq.{drop-drop, take_all, length-take-le}
 use borrow.Author.Tests.{eqb-true}
 use Rattle.fields.specs.Number.{value, get_le, Bytes}
-use Rattle.fields.specs.Part.{part, zeros}
+use Rattle.fields.specs.Part.{zeros}
 use Rattle.fields.proofs.Numbers.{value_bound, get_out, load_absent}
 use Rattle.fields.proofs.Parts.{within?, part_in, part_out}
 use Rattle.fields.proofs.Spans.{get_part}

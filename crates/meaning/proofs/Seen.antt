@@ -11,7 +11,7 @@ use Rattle.avl.specs.Tree.{Dir, left, right, flip, pick, list}
 use Rattle.avl.specs.Order.{All, nil, more, first}
 use Rattle.avl.proofs.Sides.{flip_flip}
 use Rattle.meaning.specs.Layout.{within, span, following}
-use Rattle.meaning.specs.Pool.{Rec, Pool, rec_at, tree_at, key_at}
+use Rattle.meaning.specs.Pool.{Rec, Pool, rec_at, tree_at}
 use Rattle.meaning.specs.Cursor.{Command, Cursor, nowhere, occupied, vacant, first_entry, last_entry, State, kind, beyond, next_of, cursor_tree, standing, tree_of, with_key, of_handle, at_cursor, first_from, next_of_handle, next_of_cursor}
 use Rattle.meaning.specs.Command.{show, take_out, add_new, op◌means◌does◌then◌, ops, op_in, op_of, meant, is_stale, stale, is_elsewhere, other_tree, not_at_record, key_beyond, past, none_there, among, refusal, refused, carried_out, perform}
 use Rattle.meaning.specs.WellFormed.{WellFormed}

@@ -87,7 +87,7 @@ module _ (p : Pool) (t : ℕ) (v : WellFormed p) where
         balance = decode_code b ∙ ap decode (sym (f.balance_is ∙ ap (λ (k : Links). k.balance) k));
       }
 
-  -- a part of the tree below u, in which linksAt finds its links
+  -- a part of the tree below u, in which links_at finds its links
   part_hangs : (u : ℕ) (tr : Tree) → All (Lives p t) (list left tr) → ((x : ℕ) → count (eqb x) (list left tr) ≤ 1)
       → ((x : ℕ) → 1 ≤ count (eqb x) (list left tr) → (k : Links) × (links_at p t x ≡ links_in tr u x k)) → Hangs (record_rows p 1 p.slots) t u tr
   part_hangs u leaf a o f = bare

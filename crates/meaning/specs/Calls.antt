@@ -1,6 +1,6 @@
 -- The words in which demand 3 and the reach of a kept handle are stated: door calls on one pool, a point of a batch, what a rollback gives back,
 -- and what is true of a handle from a point on. Assumes nothing.
-use Rattle.std.specs.Prelude.{Bool, true, cond, List, [], ◌∷◌, ◌++◌, ◌⊎◌, ◌≡◌, ℕ, ◌≤◌, length}
+use Rattle.std.specs.Prelude.{true, cond, List, [], ◌∷◌, ◌++◌, ◌⊎◌, ◌≡◌, ℕ, ◌≤◌, length}
 use Rattle.std.proofs.Math.Option.{some}
 use Rattle.fields.specs.Number.{get_le, Bytes}
 use Rattle.fields.specs.Part.{part}

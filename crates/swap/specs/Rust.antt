@@ -1,7 +1,7 @@
 -- The Rust's `_remove` on record bytes: a model of the Rust's code, function by function, its stores in its order, to be read beside avl/src/lib.rs.
 -- A record with two children changes places with its neighbour first, in one way where that is its own child and in another where it stands deeper,
--- and goes from there. What `tree` has of the Rust as it stands is taken from `tree`: set_child2 is putBoth, parent_direction sideN, detach detachN,
--- bottom_child bottomN, _post_remove shrinkN. A null pointer is slot 0, which takes no store. The side of a record is worked out from the record
+-- and goes from there. What `tree` has of the Rust as it stands is taken from `tree`: set_child2 is put_both, parent_direction side_n, detach detach_n,
+-- bottom_child bottom_n, _post_remove shrink_n. A null pointer is slot 0, which takes no store. The side of a record is worked out from the record
 -- above, as the Rust does where a pointer has no spare bits. Assumes nothing.
 use Rattle.std.specs.Prelude.{cond, not, ◌||◌, List, ℕ, eqb}
 use Rattle.avl.specs.Tree.{Dir, left, right, flip}

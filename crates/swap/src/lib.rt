@@ -7,18 +7,18 @@
 // To be read beside avl/src/lib.rs of embed-collections-rs:
 //
 //     the Rust                                    here               specs/
-//     AvlNode::swap                               swapN              Rust
-//     _remove, child != child_temp                deepN              Rust
-//     _remove, child == child_temp                directN            Rust
-//     _remove, from self.count -= 1 on            leaveN             Rust
-//     _remove, two children                       rustRemove2        Rust
-//     _remove, with its callers' old_parent       rustRemove         Rust
+//     AvlNode::swap                               swap_n              Rust
+//     _remove, child != child_temp                deep_n              Rust
+//     _remove, child == child_temp                direct_n            Rust
+//     _remove, from self.count -= 1 on            leave_n             Rust
+//     _remove, two children                       rust_remove2        Rust
+//     _remove, with its callers' old_parent       rust_remove         Rust
 //     and del_dir
-//     set_child2, set_child2_not_null             putBoth            Node, of `tree`
-//     set_parent, set_child, set_balance          putN               Node, of `tree`
-//     parent_direction, detach                    sideN, detachN     Node, of `tree`
-//     bottom_child                                bottomN            Walk, of `tree`
-//     _post_remove                                shrinkN            Remove, of `tree`
+//     set_child2, set_child2_not_null             put_both            Node, of `tree`
+//     set_parent, set_child, set_balance          put_n               Node, of `tree`
+//     parent_direction, detach                    side_n, detach_n     Node, of `tree`
+//     bottom_child                                bottom_n            Walk, of `tree`
+//     _post_remove                                shrink_n            Remove, of `tree`
 //
 // That these definitions are the Rust's stores is by reading. On 64 bits the Rust keeps the side of a
 // record in its parent word; here it is worked out from the links, as the Rust does elsewhere.

@@ -1,8 +1,8 @@
 -- Sides as the code has them, a flag as a mask, and the two stores of a child. Assumes nothing.
-use Rattle.std.proofs.Common.{◌≡◌, ℕ, ◌+◌, ◌-◌, ◌%◌, ◌^◌, ◌<◌, ◌≤◌, Bool, true, false, cond, not, List, sym, refl, ap, ◌∙◌, arith, lit≤}
+use Rattle.std.proofs.Common.{◌≡◌, ℕ, ◌+◌, ◌-◌, ◌%◌, ◌^◌, ◌<◌, ◌≤◌, Bool, true, false, cond, not, List, refl, ap, ◌∙◌, arith, lit≤}
 use lib.Bits.{bit_and, and_zero_r, and_mask}
 use mir.Val.{bool_byte}
-use Rattle.avl.specs.Tree.{Dir, left, right, flip, alike, to_balance}
+use Rattle.avl.specs.Tree.{Dir, flip, alike, to_balance}
 use Rattle.tree.specs.Node.{way, child, parent, put_n, put_both}
 
 pub way_not : (b : Bool) → way (not b) ≡ flip (way b)

@@ -1,5 +1,5 @@
-// Zimatuno: the four doors for programs in C or Rust, by the names of include/zimatuno.h. A slice is a
-// pointer and then a length there. None has a `requires`: each promise holds for all bytes lent.
+// Zimatuno: the four doors by the names of include/zimatuno.h, with what each returns in one number, as C takes
+// it. None has a `requires`: each promise holds for all bytes lent. The crate zimatuno_c exports them to C.
 //
 // | function  | door   | what it returns                                                                |
 // |-----------|--------|--------------------------------------------------------------------------------|
@@ -15,24 +15,21 @@ ghost use Rattle.zimatuno.specs.Abi.{batch_in_c, name_in_c};
 
 // A fresh pool of n slots, t trees and x bytes of text in the buffer: 0, or 4 (BAD_SIZE) and the buffer
 // as it was.
-#[unsafe(no_mangle)]
-pub extern "C" fn zt_create(n: u16, t: u16, x: u32, buffer: &mut [u8]) -> u8
+pub fn zt_create(n: u16, t: u16, x: u32, buffer: &mut [u8]) -> u8
     ensures { record { code = result; buffer = buffer.new } ≡ create n t x buffer.old }
 {
     create::create::create(n as u32, t as u32, x, buffer)
 }
 
 // 0 for a sound pool, else 1 (DAMAGED).
-#[unsafe(no_mangle)]
-pub extern "C" fn zt_check(pool: &[u8]) -> u8
+pub fn zt_check(pool: &[u8]) -> u8
     ensures { result ≡ check pool.now }
 {
     judge::verdict::check(pool)
 }
 
 // Carries out the batch on the pool and writes the answers.
-#[unsafe(no_mangle)]
-pub extern "C" fn zt_batch(pool: &mut [u8], batch: &[u8], answers: &mut [u8]) -> u32
+pub fn zt_batch(pool: &mut [u8], batch: &[u8], answers: &mut [u8]) -> u32
     ensures { (result, (pool.new, answers.new)) ≡ batch_in_c pool.old batch.now answers.old }
 {
     let o = batch::door::batch(pool, batch, answers);
@@ -40,8 +37,7 @@ pub extern "C" fn zt_batch(pool: &mut [u8], batch: &[u8], answers: &mut [u8]) ->
 }
 
 // Where the name of a record stands in the pool.
-#[unsafe(no_mangle)]
-pub extern "C" fn zt_name(pool: &[u8], tree: u8, slot: u16, stamp: u32) -> u64
+pub fn zt_name(pool: &[u8], tree: u8, slot: u16, stamp: u32) -> u64
     ensures { result ≡ name_in_c pool.now tree slot stamp }
 {
     let p = name::name::place_of(pool, tree, slot, stamp);

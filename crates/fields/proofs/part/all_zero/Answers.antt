@@ -1,7 +1,6 @@
 -- `all_zero`: both loops keep that the bytes passed are 0. Their measure is what is left of the count.
 use mathlib.Core.Path.{sym, ap, ◌∙◌}
 use native.Mathlib.Omega.{arith}
-use Prim.Native.Nat.{◌-◌}
 use Rattle.fields.specs.Part.{zeros}
 use Rattle.fields.proofs.Loops.{scan_start, scan_turn, scan_stop, scan_end}
 use Rattle.fields.proofs.Numbers.{get_byte}

@@ -1,6 +1,5 @@
 -- `copy_in`: the loop stores the source byte by byte. Its measure is what is left of the source.
 use mathlib.Core.Path.{refl, sym}
-use Prim.Native.Nat.{◌-◌}
 use Rattle.fields.proofs.Loops.{fill_start, fill_turn, fill_end}
 use Rattle.fields.proofs.Parts.{inside, outside, splice_out}
 use Rattle.fields.proofs.part.copy_in.Goals as goal

@@ -1,7 +1,6 @@
 -- `zero_out`: the loop stores zeros byte by byte. Its measure is what is left of the count.
 use lib.ListN.{length-replicate, get_or-replicate}
 use mathlib.Core.Path.{sym}
-use Prim.Native.Nat.{◌-◌}
 use Rattle.fields.proofs.Loops.{fill_start, fill_turn, fill_end}
 use Rattle.fields.proofs.Parts.{inside, outside, splice_out}
 use Rattle.fields.proofs.part.zero_out.Goals as goal

@@ -10,10 +10,10 @@ pub returns-then-not-within : goal.returns-then-not-within
 returns-then-not-within c = name_absent _ _ _ _ _ c.within.ensures c.if-not-within.true
 
 pub overflow_add-from : goal.overflow_add-from
-overflow_add-from c =    omega (arith, inside (c.args.from + c.args.len) (length c.args.names.now) c.within.ensures c.if-not-within.false)
+overflow_add-from c = omega (arith, inside (c.args.from + c.args.len) (length c.args.names.now) c.within.ensures c.if-not-within.false)
 
 pub slice_bounds-copy_in-end : goal.slice_bounds-copy_in-end
-slice_bounds-copy_in-end c =    omega (arith, inside (c.args.from + c.args.len) (length c.args.names.now) c.within.ensures c.if-not-within.false)
+slice_bounds-copy_in-end c = omega (arith, inside (c.args.from + c.args.len) (length c.args.names.now) c.within.ensures c.if-not-within.false)
 
 pub returns : goal.returns
-returns c =    name_copied _ _ _ _ _ c.within.ensures c.if-not-within.false c.copy_in.ensures
+returns c = name_copied _ _ _ _ _ c.within.ensures c.if-not-within.false c.copy_in.ensures

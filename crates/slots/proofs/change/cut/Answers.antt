@@ -9,4 +9,4 @@ unfolding cut_n
 returns-then-n-used c = simp (lt-ltb _ _ c.if-n-used.true)
 
 pub returns : goal.returns
-returns c =    cut_steps _ _ _ c.if-n-used.false c.zero_out.ensures
+returns c = cut_steps _ _ _ c.if-n-used.false c.zero_out.ensures

@@ -9,4 +9,4 @@ unfolding put_entry_n
 returns-then-t-i c = simp (le-leb _ _ c.if-t-i.true)
 
 pub returns : goal.returns
-returns c =    entry_put _ _ _ _ c.if-t-i.false c.put_u16.ensures c.put_u16-2.ensures
+returns c = entry_put _ _ _ _ c.if-t-i.false c.put_u16.ensures c.put_u16-2.ensures

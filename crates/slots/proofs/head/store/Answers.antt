@@ -5,7 +5,7 @@ use Rattle.slots.proofs.HeadSteps.{store_steps, length_store}
 use Rattle.slots.proofs.head.store.Goals as goal
 
 pub returns : goal.returns
-returns c =    store_steps _ _ c.put_u16.ensures c.put_u32.ensures c.put_u32-2.ensures c.put_entry.ensures c.put_entry-2.ensures
+returns c = store_steps _ _ c.put_u16.ensures c.put_u32.ensures c.put_u32-2.ensures c.put_entry.ensures c.put_entry-2.ensures
     c.put_entry-3.ensures c.put_entry-4.ensures c.put_entry-5.ensures c.put_entry-6.ensures c.put_entry-7.ensures
     c.put_entry-8.ensures
 

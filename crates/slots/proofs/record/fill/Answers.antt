@@ -9,5 +9,5 @@ unfolding fill_n
 returns-then-x-eq0 c = simp (eq-eqb _ _ c.if-x-eq0.true)
 
 pub returns : goal.returns
-returns c =    slot_stored _ _ _ c.if-x-eq0.false c.if-body-end.false c.put_u64.ensures c.put_u8.ensures c.put_u32.ensures
+returns c = slot_stored _ _ _ c.if-x-eq0.false c.if-body-end.false c.put_u64.ensures c.put_u8.ensures c.put_u32.ensures
     c.put_u32-2.ensures c.put_u16.ensures

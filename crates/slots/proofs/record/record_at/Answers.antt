@@ -9,5 +9,5 @@ unfolding record_n
 returns-then-x-eq0 c = simp (eq-eqb _ _ c.if-x-eq0.true) (cc)
 
 pub returns : goal.returns
-returns c =    slot_read _ _ c.if-x-eq0.false c.if-body-end.false c.get_u64.ensures c.get_u32.ensures
+returns c = slot_read _ _ c.if-x-eq0.false c.if-body-end.false c.get_u64.ensures c.get_u32.ensures
     c.get_u32-2.ensures c.get_u16.ensures c.get_u8.ensures

@@ -6,7 +6,7 @@ use Rattle.tree.proofs.Loops.{Climbing}
 use Rattle.tree.proofs.insert.grow.Given as goal
 
 abbrev pub invariant-loop-fuel : goal.invariant-loop-fuel
-invariant-loop-fuel l = 
+invariant-loop-fuel l =
     Climbing grow_n l.initial.nodes (grow_n levels l.initial.nodes l.initial.tree l.x (way l.initial.side.0)) l.nodes l.tree l.at (way l.side.0) l.fuel
 
 abbrev pub decreases-loop-fuel : goal.decreases-loop-fuel

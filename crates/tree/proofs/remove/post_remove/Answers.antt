@@ -8,10 +8,10 @@ pub loop-fuel-init : goal.loop-fuel-init
 loop-fuel-init c = record { same = refl; size = refl }
 
 pub returns-then-s : goal.returns-then-s
-returns-then-s c =    climb_stop c.loop-fuel.invariant c.loop-fuel-test.true _ _ c.shrink_step-s.ensures c.if-s.true
+returns-then-s c = climb_stop c.loop-fuel.invariant c.loop-fuel-test.true _ _ c.shrink_step-s.ensures c.if-s.true
 
 pub loop-fuel-preserved : goal.loop-fuel-preserved
-loop-fuel-preserved c =    climb_on c.loop-fuel.invariant c.loop-fuel-test.true _ _ c.shrink_step-s.ensures c.if-s.false
+loop-fuel-preserved c = climb_on c.loop-fuel.invariant c.loop-fuel-test.true _ _ c.shrink_step-s.ensures c.if-s.false
     c.shrink_step-s.auto.nodes
 
 pub returns : goal.returns

@@ -8,7 +8,7 @@ use Rattle.tree.proofs.Loops.{Seeking}
 use Rattle.tree.proofs.search.entry.Given as goal
 
 abbrev pub invariant-loop-compared : goal.invariant-loop-compared
-invariant-loop-compared l = 
+invariant-loop-compared l =
     Seeking l.nodes l.key (seek_n levels l.nodes l.key l.initial.at 0 right 0) l.at l.parent (way l.side.0) l.compared
 
 abbrev pub decreases-loop-compared : goal.decreases-loop-compared

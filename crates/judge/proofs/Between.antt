@@ -1,12 +1,12 @@
 -- The fields of a record in its row, and bounds as slots: what the tests of a record say of its key. Assumes nothing.
 use mathlib.Core.Path.{◌≡◌, refl, sym, ap, ◌∙◌}
-use mathlib.Core.Bool.{Bool, true, false, not, cond, ◌&&◌, and_assoc, false≢true}
+use mathlib.Core.Bool.{Bool, true, false, cond, ◌&&◌, and_assoc, false≢true}
 use mathlib.Core.List.{List}
 use Prim.Native.Nat.{ℕ, suc, ◌+◌, ◌*◌, ◌-◌, ◌<◌, ◌≤◌}
 use native.Mathlib.Omega.{arith}
 use lib.Dec.{eqb, leb, ltb}
 use lib.ListN.{length, take, drop}
-use borrow.Author.Tests.{eq-eqb, ne_eqb, le-leb, lt-leb, lt-ltb, ltb-true, ltb-false, eqb-false, leb-true, not-false}
+use borrow.Author.Tests.{eq-eqb, ne_eqb, le-leb, lt-leb, lt-ltb, ltb-true, ltb-false, eqb-false, leb-true}
 use Rattle.fields.specs.Number.{get_le, Bytes}
 use Rattle.fields.proofs.Spans.{get_part}
 use Rattle.avl.specs.Tree.{left, right}
@@ -113,10 +113,10 @@ module _ (m : List ℕ) (N t u x lo hi : ℕ) where
       simp (ne_eqb x 0 s, le-leb x N h, ← tree_is, ← parent_is, ← c, ← d, ← e, ← f) g
 
   -- a record that passes is one of the slots, and lies between the bounds
-  pub own_in : {o : Bool} → o ≡ own_n m N t u x lo hi → not o ≡ false → (1 ≤ x) × (x ≤ N) × ((rises_n m lo x && rises_n m x hi) ≡ true)
+  pub own_in : {o : Bool} → o ≡ own_n m N t u x lo hi → o ≡ true → (1 ≤ x) × (x ≤ N) × ((rises_n m lo x && rises_n m x hi) ≡ true)
   unfolding own_n
   own_in e h =
-      let g : own_n m N t u x lo hi ≡ true = sym e ∙ not-false _ h in
+      let g : own_n m N t u x lo hi ≡ true = sym e ∙ h in
       test (eqb x 0) (λ z. absurd (false≢true (rw z at g)))
       (λ z.
       let a = both (leb x N) _ (rw z at g) in

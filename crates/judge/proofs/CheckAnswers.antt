@@ -6,7 +6,6 @@ use native.Mathlib.Omega.{arith}
 use Prim.Native.Nat.{ℕ, ◌+◌, ◌*◌, ◌-◌, ◌≤◌}
 use lib.Dec.{eqb}
 use lib.ListN.{length, take, drop}
-use borrow.Author.Tests.{not-true, not-false}
 use Rattle.fields.specs.Number.{get_le}
 use Rattle.fields.specs.Part.{part, zeros}
 use Rattle.meaning.specs.Layout.{rows, every, count}
@@ -34,9 +33,9 @@ unfolding judged
 judged_ok b e = ap (λ (k : Judged). k.ok) e ∙ test (sound b) (λ t. rw t refl) (λ t. rw t refl)
 
 -- a bad header
-pub bad_header : (b : List ℕ) {h : Bool} → h ≡ header_ok b → not h ≡ true → unsound ≡ judged b
+pub bad_header : (b : List ℕ) {h : Bool} → h ≡ header_ok b → h ≡ false → unsound ≡ judged b
 unfolding sound
-bad_header b e n = refused b (simp (sym e ∙ not-true _ n) refl)
+bad_header b e n = refused b (simp (sym e ∙ n) refl)
 
 -- what a good header gives: the numbers read, and that the sections lie within the pool
 pub record Read (b : List ℕ) (n t used next : ℕ) : Type 0 where
@@ -46,10 +45,10 @@ pub record Read (b : List ℕ) (n t used next : ℕ) : Type 0 where
   pub text : used ≡ text_used b
   pub stamp : next ≡ next_stamp b
 
-pub have_read : (b : List ℕ) {h : Bool} {n t used next : ℕ} → h ≡ header_ok b → not h ≡ false → n ≡ get_le 2 b 2 → t ≡ get_le 2 b 4 → used ≡ get_le 4 b 24
+pub have_read : (b : List ℕ) {h : Bool} {n t used next : ℕ} → h ≡ header_ok b → h ≡ true → n ≡ get_le 2 b 2 → t ≡ get_le 2 b 4 → used ≡ get_le 4 b 24
     → next ≡ get_le 4 b 28 → Read b n t used next
 unfolding n_slots n_trees text_used next_stamp
-have_read b e h n t u x = record { good = sym e ∙ not-false _ h; slots = n; trees = t; text = u; stamp = x }
+have_read b e h n t u x = record { good = sym e ∙ h; slots = n; trees = t; text = u; stamp = x }
 
 pub record Fits (b : List ℕ) (n t used : ℕ) : Type 0 where
   pub trees_high : t ≤ 8
@@ -66,10 +65,10 @@ module _ (b : List ℕ) {n t used next : ℕ} (r : Read b n t used next) {e : Bo
   entries_are = sym (ee ∙ ap (λ (k : ℕ). every entry_ok (rows k 8 (drop 32 b))) r.trees)
 
   -- an entry that is not good
-  pub bad_entries : not e ≡ true → unsound ≡ judged b
-  bad_entries h = refused b (sound_is b r.good (entries_are ∙ not-true e h) refl refl refl refl)
+  pub bad_entries : e ≡ false → unsound ≡ judged b
+  bad_entries h = refused b (sound_is b r.good (entries_are ∙ h) refl refl refl refl)
 
-  module _ (good-e : not e ≡ false) {q : Judged} (qe : q ≡ counted used next 1 0 0 (rows n 32 (drop (32 + 8 * t) b))) where
+  module _ (good-e : e ≡ true) {q : Judged} (qe : q ≡ counted used next 1 0 0 (rows n 32 (drop (32 + 8 * t) b))) where
     rows_are : every (record_in used next) (rows n 32 (drop (32 + 8 * t) b)) ≡ every (record_in (text_used b) (next_stamp b)) (records b)
     unfolding records
     rows_are = simp (r.slots, r.trees, r.text, r.stamp) refl
@@ -81,20 +80,20 @@ module _ (b : List ℕ) {n t used next : ℕ} (r : Read b n t used next) {e : Bo
     all_ok = every (record_ok (n_trees b) (text_used b) (next_stamp b)) (records b)
 
     e_true : every entry_ok (entries b) ≡ true
-    e_true = entries_are ∙ not-false e good-e
+    e_true = entries_are ∙ good-e
 
     -- a record that is not good
-    pub bad_records : not q.ok ≡ true → unsound ≡ judged b
+    pub bad_records : q.ok ≡ false → unsound ≡ judged b
     bad_records h =
         refused b (sound_is b r.good e_true
         (test all_ok
-        (λ k. absurd (false≢true (sym (records_are ∙ not-true q.ok h) ∙ rows_weak (n_trees b) (text_used b) (next_stamp b) (records b) k))) (λ k. k))
+        (λ k. absurd (false≢true (sym (records_are ∙ h) ∙ rows_weak (n_trees b) (text_used b) (next_stamp b) (records b) k))) (λ k. k))
         refl refl refl)
 
-    module _ (good-q : not q.ok ≡ false) {z : Bool}
+    module _ (good-q : q.ok ≡ true) {z : Bool}
         (ze : z ≡ zeros (part b (32 + 8 * t + 32 * n + used) (length b - (32 + 8 * t + 32 * n) - used))) where
       r_true : every (record_in (text_used b) (next_stamp b)) (records b) ≡ true
-      r_true = records_are ∙ not-false q.ok good-q
+      r_true = records_are ∙ good-q
 
       live_is : q.live ≡ count (λ r. not (eqb (tree_in r) 0)) (records b)
       unfolding records
@@ -138,8 +137,8 @@ module _ (b : List ℕ) {n t used next : ℕ} (r : Read b n t used next) {e : Bo
                 (λ v. de ∙ simp (ce, v, and-false) refl)
 
         -- unused text that is not zero, a tree that is not good, or a header with another number of live records
-        pub bad_rest : not d ≡ true → unsound ≡ judged b
-        bad_rest h = refused b (sound_rest ∙ not-true d h)
+        pub bad_rest : d ≡ false → unsound ≡ judged b
+        bad_rest h = refused b (sound_rest ∙ h)
 
         free_is : q.free ≡ free_slot (read b)
         unfolding free_slot read records
@@ -149,9 +148,9 @@ module _ (b : List ℕ) {n t used next : ℕ} (r : Read b n t used next) {e : Bo
             ∙ simp (r.slots, r.trees) refl
 
         -- all is good: what the records told is what is judged
-        pub all_good : not d ≡ false → q ≡ judged b
+        pub all_good : d ≡ true → q ≡ judged b
         unfolding judged live_count read
         all_good h =
             let told : q ≡ record { ok = true; live = live_count (read b); free = free_slot (read b) } =
-            simp (← not-false q.ok good-q, live_read (records b), ← live_is, ← free_is) refl in
-            told ∙ simp (sound_rest ∙ not-false d h) refl
+            simp (← good-q, live_read (records b), ← live_is, ← free_is) refl in
+            told ∙ simp (sound_rest ∙ h) refl

@@ -1,5 +1,5 @@
 -- One turn of each pass over the rows of a section: what the rows from here on give is what all of them give. Assumes nothing.
-use mathlib.Core.Bool.{Bool, true, false, not}
+use mathlib.Core.Bool.{Bool, true, false}
 use mathlib.Core.List.{List, [], ◌∷◌}
 use mathlib.Core.Path.{◌≡◌, sym, ap, ap₂, ◌∙◌}
 use Prim.Native.Nat.{ℕ, suc, ◌+◌, ◌*◌, ◌-◌, ◌≤◌, ◌<◌}
@@ -7,7 +7,7 @@ use native.Mathlib.Nat.{mul-suc, mul-zero}
 use native.Mathlib.Omega.{arith}
 use lib.ListN.{length, take, drop, length-drop}
 use lib.Seq.{drop-drop, length-take-le}
-use borrow.Author.Tests.{not-true, not-false, eq-eqb, ne_eqb}
+use borrow.Author.Tests.{eq-eqb, ne_eqb}
 use Rattle.fields.specs.Number.{get_le}
 use Rattle.meaning.specs.Layout.{rows, every}
 use Rattle.meaning.specs.Pool.{tree_in}
@@ -71,13 +71,13 @@ module _ {b : List ℕ} {t i : ℕ} (s : Passing b t i) (h : i < t) {o : Bool} (
   turn : every entry_ok (lent 8 32 b i ∷ left t 8 32 b (i + 1)) ≡ every entry_ok (rows t 8 (drop 32 b))
   turn = sym (ap (every entry_ok) (left_turn t 8 32 b i h)) ∙ s.same
 
-  pub pass_stop : not o ≡ true → false ≡ every entry_ok (rows t 8 (drop 32 b))
+  pub pass_stop : o ≡ false → false ≡ every entry_ok (rows t 8 (drop 32 b))
   unfolding every
-  pass_stop f = simp (← e, not-true o f) at turn
+  pass_stop f = simp (← e, f) at turn
 
-  pub pass_turn : not o ≡ false → Passing b t (i + 1)
+  pub pass_turn : o ≡ true → Passing b t (i + 1)
   unfolding every
-  pass_turn f = record { same = simp (← e, not-false o f) at turn }
+  pass_turn f = record { same = simp (← e, f) at turn }
 
 -- ---- the records
 
@@ -103,17 +103,17 @@ module _ {used next n at : ℕ} {b : List ℕ} {i live free : ℕ} (s : Counting
   on = sym (ap (counted used next (i + 1) live free) (left_turn n 32 at b i h)) ∙ s.same
 
   module _ {o : Bool} (e : o ≡ record_in used next (lent 32 at b i)) where
-    pub count_stop : not o ≡ true → record { ok = false; live = 0; free = 0 } ≡ counted used next 1 0 0 (rows n 32 (drop at b))
+    pub count_stop : o ≡ false → record { ok = false; live = 0; free = 0 } ≡ counted used next 1 0 0 (rows n 32 (drop at b))
     unfolding counted
-    count_stop f = simp (← e, not-true o f) at on
+    count_stop f = simp (← e, f) at on
 
-    module _ (f : not o ≡ false) {tree : ℕ} (g : tree ≡ get_le 1 (lent 32 at b i) 15) {live' free' : ℕ} where
+    module _ (f : o ≡ true) {tree : ℕ} (g : tree ≡ get_le 1 (lent 32 at b i) 15) {live' free' : ℕ} where
       pub count_live : (tree ≡ 0 → ⊥) → live' ≡ live + 1 → free' ≡ free → Counting used next n at b (i + 1) live' free'
       unfolding counted tree_in
       count_live t p q =
           record {
             few = omega (arith, s.few);
-            same = simp (p, q) (simp (← e, not-false o f, ← g, ne_eqb tree 0 t, next_slot i) at on);
+            same = simp (p, q) (simp (← e, f, ← g, ne_eqb tree 0 t, next_slot i) at on);
           }
 
       module _ (t : tree ≡ 0) where
@@ -122,7 +122,7 @@ module _ {used next n at : ℕ} {b : List ℕ} {i live free : ℕ} (s : Counting
         count_first z p q =
             record {
               few = omega (arith, s.few);
-              same = simp (p, q) (simp (← e, not-false o f, ← g, eq-eqb tree 0 t, eq-eqb free 0 z, next_slot i) at on);
+              same = simp (p, q) (simp (← e, f, ← g, eq-eqb tree 0 t, eq-eqb free 0 z, next_slot i) at on);
             }
 
         pub count_later : (free ≡ 0 → ⊥) → live' ≡ live → free' ≡ free → Counting used next n at b (i + 1) live' free'
@@ -130,5 +130,5 @@ module _ {used next n at : ℕ} {b : List ℕ} {i live free : ℕ} (s : Counting
         count_later z p q =
             record {
               few = omega (arith, s.few);
-              same = simp (p, q) (simp (← e, not-false o f, ← g, eq-eqb tree 0 t, ne_eqb free 0 z, next_slot i) at on);
+              same = simp (p, q) (simp (← e, f, ← g, eq-eqb tree 0 t, ne_eqb free 0 z, next_slot i) at on);
             }

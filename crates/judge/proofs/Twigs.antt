@@ -1,13 +1,13 @@
 -- Leaves judged where they hang: a record whose word is a leaf's is a leaf, and what a record of height 1 or 2 counts. Assumes nothing.
 use mathlib.Core.Path.{◌≡◌, refl, sym, ap, ◌∙◌}
-use mathlib.Core.Bool.{Bool, true, false, not, cond, ◌&&◌, and-false, false≢true}
+use mathlib.Core.Bool.{Bool, true, false, cond, ◌&&◌, and-false, false≢true}
 use mathlib.Core.List.{List}
 use Prim.Native.Nat.{ℕ, zero, suc, ◌+◌, ◌*◌, ◌-◌, ◌/◌, ◌%◌, ◌^◌, ◌<◌, ◌≤◌}
 use native.Mathlib.Omega.{arith}
 use lib.Dec.{eqb, leb}
 use lib.ListN.{length, drop, length-drop}
 use lib.Seq.{length-take-le}
-use borrow.Author.Tests.{eqb-true, eqb-false, eq-eqb, ne_eqb, le-leb, leb-true, not-true, not-false}
+use borrow.Author.Tests.{eqb-true, eqb-false, eq-eqb, ne_eqb, le-leb, leb-true}
 use Rattle.fields.specs.Number.{get_le, Bytes}
 use Rattle.fields.proofs.Numbers.{get_join}
 use Rattle.avl.specs.Tree.{left, right}
@@ -149,9 +149,9 @@ unfolding pick_n
 pick_slot x y e h = rw e (test (eqb y 0) (λ z. rw z h) (λ z. rw z (omega (arith, eqb-false y 0 z))))
 
 -- links that pass the tests lead to slots
-pub shaped_in : (N l r : ℕ) {c e f k : Bool} → c ≡ (leb l N && leb r N) → e ≡ k → f ≡ (c && e) → not f ≡ false → (l ≤ N) × (r ≤ N)
+pub shaped_in : (N l r : ℕ) {c e f k : Bool} → c ≡ (leb l N && leb r N) → e ≡ k → f ≡ (c && e) → f ≡ true → (l ≤ N) × (r ≤ N)
 shaped_in N l r {c} {e} {f} ce ee fe z =
-    let g = both (leb l N) (leb r N) (sym ce ∙ (both c e (sym fe ∙ not-false f z)).0) in
+    let g = both (leb l N) (leb r N) (sym ce ∙ (both c e (sym fe ∙ z)).0) in
     (leb-true l N g.0, leb-true r N g.1)
 
 -- a link of a good part leads to a slot
@@ -234,8 +234,8 @@ module _ (m : List ℕ) (all : Bytes m) (N t x lo hi h : ℕ) (s : 1 ≤ x) (ins
   -- the tests of its links and its balance
   module _ {c d e f : Bool} (ce : c ≡ (leb l N && leb r N)) (de : d ≡ (eqb (hl + b % 2 + 1) h && eqb (hr + b / 2 + 1) h)) (ee : e ≡ (leb b 2 && d))
       (fe : f ≡ (c && e)) where
-    pub twig_unshaped : not f ≡ true → 0 ≡ twig
-    twig_unshaped z = none_is twig (λ some. false≢true (sym (not-true f z) ∙ good (twig_some some)))
+    pub twig_unshaped : f ≡ false → 0 ≡ twig
+    twig_unshaped z = none_is twig (λ some. false≢true (sym z ∙ good (twig_some some)))
       where
         good : Twig → f ≡ true
         good w =
@@ -243,10 +243,10 @@ module _ (m : List ℕ) (all : Bytes m) (N t x lo hi h : ℕ) (s : 1 ≤ x) (ins
             (ee ∙ both_true (leb b 2) d (le-leb b 2 w.low)
             (de ∙ both_true (eqb (hl + b % 2 + 1) h) (eqb (hr + b / 2 + 1) h) (eq-eqb (hl + b % 2 + 1) h w.left_high) (eq-eqb (hr + b / 2 + 1) h w.right_high)))
 
-    module _ (z : not f ≡ false) where
+    module _ (z : f ≡ true) where
       shaped : left_leaf ≡ true → right_leaf ≡ true → Twig
       shaped p q =
-          let g = both (leb b 2) d (sym ee ∙ (both c e (sym fe ∙ not-false f z)).1) in
+          let g = both (leb b 2) d (sym ee ∙ (both c e (sym fe ∙ z)).1) in
           let k = both (eqb (hl + b % 2 + 1) h) (eqb (hr + b / 2 + 1) h) (sym de ∙ g.1) in
           record {
             low = leb-true b 2 g.0;
@@ -271,11 +271,11 @@ module _ (m : List ℕ) (all : Bytes m) (N t x lo hi h : ℕ) (s : 1 ≤ x) (ins
         right_is : q ≡ right_leaf
         right_is = qe ∙ simp (c₁, c₂, c₃, word_is) refl
 
-        pub twig_bare : not o ≡ true → 0 ≡ twig
+        pub twig_bare : o ≡ false → 0 ≡ twig
         twig_bare n =
             none_is twig (λ some.
             let w = twig_some some in
-            false≢true (sym (not-true o n) ∙ (oe ∙ both_true p q (left_is ∙ w.left_fits) (right_is ∙ w.right_fits))))
+            false≢true (sym n ∙ (oe ∙ both_true p q (left_is ∙ w.left_fits) (right_is ∙ w.right_fits))))
 
-        pub twig_good : not o ≡ false → 2 + (hl + hr) ≡ twig
-        twig_good n = let g = both p q (sym oe ∙ not-false o n) in some_twig (shaped (sym left_is ∙ g.0) (sym right_is ∙ g.1))
+        pub twig_good : o ≡ true → 2 + (hl + hr) ≡ twig
+        twig_good n = let g = both p q (sym oe ∙ n) in some_twig (shaped (sym left_is ∙ g.0) (sym right_is ∙ g.1))

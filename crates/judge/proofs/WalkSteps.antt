@@ -1,13 +1,13 @@
 -- The answers of the walk that checks a tree, each by its tests and calls in the code's order. Assumes nothing.
 use mathlib.Core.Path.{◌≡◌, refl, sym, ap, ◌∙◌}
-use mathlib.Core.Bool.{Bool, true, false, not, cond, ◌&&◌}
+use mathlib.Core.Bool.{Bool, true, false, cond, ◌&&◌}
 use mathlib.Core.List.{List}
 use Prim.Native.Nat.{ℕ, zero, suc, ◌+◌, ◌*◌, ◌-◌, ◌/◌, ◌%◌, ◌^◌, ◌<◌, ◌≤◌}
 use native.Mathlib.Nat.{pow-le-pow_right}
 use native.Mathlib.Omega.{arith}
 use lib.Dec.{eqb, ltb}
 use lib.ListN.{length}
-use borrow.Author.Tests.{eq-eqb, ne_eqb, le-leb, lt-leb, eqb-true, eqb-false, ltb-true, ltb-false, not-true, not-false}
+use borrow.Author.Tests.{eq-eqb, ne_eqb, le-leb, lt-leb, eqb-true, eqb-false, ltb-true, ltb-false}
 use Rattle.fields.specs.Number.{get_le, Bytes}
 use Rattle.meaning.proofs.Facts.{test}
 use Rattle.judge.specs.Check.{link_n, weighed, bound_n, parts_n, found, row_n, from, below, rises_n, own_n, sized, higher_n, ground_n, fits_n}
@@ -69,25 +69,25 @@ module _ (m : List ℕ) (all : Bytes m) (N t level u x lo hi g : ℕ) (deep : g 
     go zero f = absurd (omega arith)
     go (suc j) f = let q : suc j - 1 ≡ j = omega arith in rw (q, e) (link_turn m N t j u x lo hi s all)
 
-  pub link_other : not o ≡ true → 0 ≡ link
+  pub link_other : o ≡ false → 0 ≡ link
   link_other f =
       test (eqb x 0)
       (λ z.
       let n : bound_n m N t level u x (from m lo) (below m hi) ≡ 256 = rw (eqb-true x 0 z) (bound_none m N t level u (from m lo) (below m hi)) in
       none_is link (λ some. omega (arith, (sized_some (bound_n m N t level u x (from m lo) (below m hi)) (level - g) some).0)))
-      (λ z. sized_none (bound_n m N t level u x (from m lo) (below m hi)) (level - g) (turn (eqb-false x 0 z) ∙ simp (not-true o f) refl))
+      (λ z. sized_none (bound_n m N t level u x (from m lo) (below m hi)) (level - g) (turn (eqb-false x 0 z) ∙ simp f refl))
 
-  module _ (f : not o ≡ false) (s : 1 ≤ x) where
+  module _ (f : o ≡ true) (s : 1 ≤ x) where
     pub link_twig : level - g ≤ 2 → {w : ℕ} → w ≡ sized (parts_n m N t 1 x (from m lo) (below m hi)) (level - g) → w ≡ link
     link_twig h we =
         let two : bound_n m N t 2 u x (from m lo) (below m hi) ≡ parts_n m N t 1 x (from m lo) (below m hi) =
-        link_turn m N t 1 u x lo hi (λ z. omega arith) all ∙ simp (← e, not-false o f) refl in
+        link_turn m N t 1 u x lo hi (λ z. omega arith) all ∙ simp (← e, f) refl in
         we ∙ ap (λ (n : ℕ). sized n (level - g)) (sym two) ∙ settled m N t 2 level u x (from m lo) (below m hi) (level - g) h (omega arith)
 
     pub link_record : {w : ℕ} → w ≡ sized (parts_n m N t (level - 1) x (from m lo) (below m hi)) (level - 1 + 1 - g) → w ≡ link
     link_record we =
         let q : level - 1 + 1 - g ≡ level - g = omega arith in
-        we ∙ rw (q, turn (λ z. omega arith), not-false o f) refl
+        we ∙ rw (q, turn (λ z. omega arith), f) refl
 
 -- what a part counts fits in
 pub part_fits : (m : List ℕ) (N t level u x lo hi h : ℕ) → level ≤ 14 → {n : ℕ} → n ≡ sized (bound_n m N t level u x lo hi) h → n ≤ 16384

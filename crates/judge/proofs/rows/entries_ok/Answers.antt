@@ -29,7 +29,7 @@ pub entry_ok-requires : goal.entry_ok-requires
 entry_ok-requires c = row_length _ (32 + 8 * c.loop-i.i) (32 + 8 * c.loop-i.i + 8) 8 (omega arith) (omega arith)
 
 pub returns-then-not-entry_ok : goal.returns-then-not-entry_ok
-returns-then-not-entry_ok c =    pass_stop c.loop-i.invariant c.loop-i-test.true c.entry_ok.ensures c.if-not-entry_ok.true-raw
+returns-then-not-entry_ok c =    pass_stop c.loop-i.invariant c.loop-i-test.true c.entry_ok.ensures c.if-not-entry_ok.true
 
 pub overflow_add-i : goal.overflow_add-i
 overflow_add-i c = omega arith
@@ -38,7 +38,7 @@ pub loop-i-smaller : goal.loop-i-smaller
 loop-i-smaller c = omega arith
 
 pub loop-i-preserved : goal.loop-i-preserved
-loop-i-preserved c =    pass_turn c.loop-i.invariant c.loop-i-test.true c.entry_ok.ensures c.if-not-entry_ok.false-raw
+loop-i-preserved c =    pass_turn c.loop-i.invariant c.loop-i-test.true c.entry_ok.ensures c.if-not-entry_ok.false
 
 pub returns : goal.returns
 returns c = pass_end c.loop-i.invariant c.loop-i-test.false

@@ -20,9 +20,9 @@ pub overflow_add-n : goal.overflow_add-n
 overflow_add-n c = omega arith
 
 pub returns-then-n-count : goal.returns-then-n-count
-returns-then-n-count c =    tree_many _ _ _ _ (record { below = λ i. omega (arith, c.shared_slice_known-1.given i) }) c.ground.ensures
+returns-then-n-count c =    tree_many c.args.nodes.now _ _ _ (record { below = λ i. omega (arith, c.type_inv.nodes i) }) c.ground.ensures
     c.check_link-count.ensures c.if-n-count.true
 
 pub returns : goal.returns
-returns c =    tree_is _ _ _ _ (record { below = λ i. omega (arith, c.shared_slice_known-1.given i) }) c.ground.ensures
+returns c =    tree_is c.args.nodes.now _ _ _ (record { below = λ i. omega (arith, c.type_inv.nodes i) }) c.ground.ensures
     c.check_link-count.ensures c.if-n-count.false

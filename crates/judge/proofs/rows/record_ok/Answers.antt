@@ -3,7 +3,7 @@ use Rattle.judge.proofs.ClauseSteps.{record_free, record_live}
 use Rattle.judge.proofs.rows.record_ok.Goals as goal
 
 pub returns-then-get_u8-eq0 : goal.returns-then-get_u8-eq0
-returns-then-get_u8-eq0 c =    record_free _ _ _ c.get_u8.ensures c.if-get_u8-eq0.true c.requires
+returns-then-get_u8-eq0 c = record_free _ _ _ c.get_u8.ensures c.if-get_u8-eq0.true c.requires
     c.all_zero.ensures
 
 pub returns : goal.returns

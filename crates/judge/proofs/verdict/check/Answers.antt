@@ -1,9 +1,6 @@
 -- `check`: 0 exactly if the pool is sound.
 use mathlib.Core.Path.{refl, sym, ◌∙◌}
 use Rattle.meaning.specs.Doors.{check}
-use Rattle.judge.proofs.verdict.check.Reads as reads
-use Rattle.judge.proofs.verdict.check.Lts as lts
-use Rattle.judge.proofs.verdict.is_sound.Reads as is-sound-reads
 use Rattle.judge.proofs.verdict.check.Goals as goal
 
 pub returns-then-is_sound : goal.returns-then-is_sound

@@ -6,23 +6,17 @@ use Rattle.judge.proofs.walk.check_tree.Goals as goal
 pub returns-then-root-eq0 : goal.returns-then-root-eq0
 returns-then-root-eq0 c = tree_none _ _ _ _ c.if-root-eq0.true
 
-pub ground-requires : goal.ground-requires
-ground-requires c = omega arith
-
-pub overflow_cast-check_link : goal.overflow_cast-check_link
-overflow_cast-check_link c = omega arith
-
 pub check_link-count-requires : goal.check_link-count-requires
-check_link-count-requires c =    let low = ground_low _ _ c.args.root (omega (arith, c.if-root-eq0.false)) c.ground.ensures in
+check_link-count-requires c =
+    let low = ground_low _ _ c.args.root (omega (arith, c.if-root-eq0.false)) c.ground.ensures in
     (omega (arith, low), omega arith, record { room = omega arith; few = omega arith; byte = omega arith; low = omega arith; high = omega arith })
 
-pub overflow_add-n : goal.overflow_add-n
-overflow_add-n c = omega arith
-
 pub returns-then-n-count : goal.returns-then-n-count
-returns-then-n-count c =    tree_many c.args.nodes.now _ _ _ (record { below = λ i. omega (arith, c.type_inv.nodes i) }) c.ground.ensures
-    c.check_link-count.ensures c.if-n-count.true
+returns-then-n-count c =
+    tree_many c.args.nodes.now _ _ _ (record { below = λ i. omega (arith, c.type_inv.nodes i) }) c.ground.ensures c.check_link-count.ensures
+    c.if-n-count.true
 
 pub returns : goal.returns
-returns c =    tree_is c.args.nodes.now _ _ _ (record { below = λ i. omega (arith, c.type_inv.nodes i) }) c.ground.ensures
-    c.check_link-count.ensures c.if-n-count.false
+returns c =
+    tree_is c.args.nodes.now _ _ _ (record { below = λ i. omega (arith, c.type_inv.nodes i) }) c.ground.ensures c.check_link-count.ensures
+    c.if-n-count.false

@@ -9,4 +9,6 @@ pub returns-then-tree-x : goal.returns-then-tree-x
 returns-then-tree-x c = own_past _ _ _ _ _ _ _ c.if-x-eq0.false c.if-tree-x.true
 
 pub returns : goal.returns
-returns c =    own_row _ _ _ _ _ _ _ c.if-x-eq0.false c.if-tree-x.false c.requires.room c.row-own.ensures c.get_u8.ensures c.get_u16.ensures c.rises.ensures c.rises-2.ensures c.both.ensures c.both-2.ensures c.both-3.ensures
+returns c =
+    own_row _ _ _ _ _ _ _ c.if-x-eq0.false c.if-tree-x.false c.requires.room c.row-own.ensures c.get_u8.ensures c.get_u16.ensures c.rises.ensures
+    c.rises-2.ensures c.both.ensures c.both-2.ensures c.both-3.ensures

@@ -1,10 +1,8 @@
 -- What the code's cursor says, case by case, the record beside a vacant entry, and the next cursor. Assumes nothing.
 use mathlib.Core.Bool.{Bool, true, false, cond}
-use mathlib.Core.List.{List, [], ◌∷◌}
+use mathlib.Core.List.{List}
 use mathlib.Core.Path.{◌≡◌, refl, sym, ap, ◌∙◌}
 use Prim.Native.Nat.{ℕ}
-use denote.Enum.Declared.{tag_of}
-use types.Run.{OneOf, miss}
 use Rattle.avl.specs.Tree.{Dir, left, right, alike}
 use Rattle.tree.specs.Node.{way}
 use Rattle.tree.specs.Walk.{walk_n}
@@ -17,7 +15,6 @@ use Rattle.cursor.specs.declared.cursor.Cursor.{Cursor as CodeCursor}
 use Rattle.cursor.specs.declared.cursor.Cursor.TheVariants.{Nowhere, Occupied, Vacant, First, Last}
 use Rattle.cursor.specs.declared.cursor.Next.{Next}
 use Rattle.cursor.specs.declared.cursor.Next.TheVariants.{Stood, End}
-use Rattle.cursor.specs.contracts.cursor.Cursor.{the_type}
 
 -- What is read off a cursor is read off its case.
 pub in_case : {A : Type 0} (f : Cursor → A) {s k : CodeCursor} → s ≡ k → f (cursor_of k) ≡ f (cursor_of s)

@@ -10,7 +10,6 @@ use native.Mathlib.Omega.{arith}
 use lib.ListN.{length, get_or, replicate, length-append, length-replicate}
 use Rattle.fields.specs.Number.{Bytes}
 use Rattle.avl.specs.Tree.{right}
-use Rattle.avl.specs.Way.{above, side}
 use Rattle.avl.specs.Search.{entry, compared}
 use Rattle.tree.specs.Held.{tree_of}
 use Rattle.tree.specs.Search.{Ending, seek_n}

@@ -1,7 +1,6 @@
 -- The ways in which a command ends, on the body and the state, are those of `meaning`: it is refused, or it shows a record, or it takes one out.
 -- Assumes nothing.
-use mathlib.Core.Bool.{Bool, true, false, cond}
-use mathlib.Core.List.{List}
+use mathlib.Core.Bool.{Bool, cond}
 use mathlib.Core.Option.{Option, none, some}
 use mathlib.Core.Path.{◌≡◌, refl, sym, ap, ◌∙◌, subst}
 use Prim.Native.Nat.{ℕ, ◌≤◌}
@@ -18,14 +17,14 @@ use Rattle.meaning.proofs.Facts.{test}
 use Rattle.meaning.proofs.Members.{Lives}
 use Rattle.meaning.proofs.Tables.{never}
 use Rattle.slots.specs.Record.{record_n}
-use Rattle.slots.specs.Change.{Image, drop_rec_n}
+use Rattle.slots.specs.Change.{drop_rec_n}
 use Rattle.slots.specs.Head.{tree_n}
 use Rattle.slots.specs.Image.{body_of, head_of, record_of, shown_of}
 use Rattle.slots.specs.declared.record.Record.{Record}
 use Rattle.slots.proofs.Looking.{record_image}
 use Rattle.slots.proofs.Changing.{drop_image}
 use Rattle.cursor.specs.Cursor.{after_n}
-use Rattle.cursor.specs.Work.{Work, placed, Did, sight_of}
+use Rattle.cursor.specs.Work.{placed, Did, sight_of}
 use Rattle.cursor.specs.declared.command.Command.{Command as CodeCommand}
 use Rattle.cursor.specs.declared.cursor.Next.{Next}
 use Rattle.cursor.specs.declared.state.Mark.{Mark as CodeMark}

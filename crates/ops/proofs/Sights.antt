@@ -27,7 +27,6 @@ use Rattle.cursor.specs.declared.cursor.Next.TheVariants.{Gone, Kept, Shown, End
 use Rattle.cursor.specs.declared.result.Sight.{Sight}
 use Rattle.ops.specs.Ending.{either_n, look_n}
 use Rattle.ops.specs.Ops.{sought_n, end_n, none_n, handle_tests_n, get_n, beside_handle_n, first_n, nearest_n, code_dir, entered_n, entry_n, end_entry_n, cursor_test, peek_n, kept_unless, move_n}
-use Rattle.ops.specs.Perform.{Out}
 use Rattle.ops.specs.Image.{work_in, meant_by}
 use Rattle.ops.proofs.Agreeing.{Agrees}
 use Rattle.ops.proofs.Rows.{Row, lost_at, tree_at_lem, then_same, none_same}

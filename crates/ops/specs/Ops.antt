@@ -12,7 +12,7 @@ use Rattle.tree.specs.declared.node.AvlTree.{AvlTree}
 use Rattle.meaning.specs.Cursor.{Cursor, kind, standing, entry_key}
 use Rattle.meaning.specs.Command.{is_other}
 use Rattle.slots.specs.Record.{record_n}
-use Rattle.slots.specs.Change.{Image, emptied_n}
+use Rattle.slots.specs.Change.{emptied_n}
 use Rattle.slots.specs.declared.head.Head.{Head}
 use Rattle.slots.specs.declared.head.Numbers.{Numbers}
 use Rattle.cursor.specs.Cursor.{beside_n, hung_n}

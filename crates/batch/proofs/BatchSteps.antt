@@ -1,7 +1,7 @@
 -- The steps of the door `batch`: its three refusals, the places that it cuts at, and a batch that is carried out. Assumes nothing.
 use mathlib.Core.Bool.{Bool, true, false, not, cond}
 use mathlib.Core.List.{List, [], ◌++◌, append-nil}
-use mathlib.Core.Path.{◌≡◌, refl, sym, ap, ap₂, ◌∙◌}
+use mathlib.Core.Path.{◌≡◌, sym, ap, ap₂, ◌∙◌}
 use Prim.Native.Nat.{ℕ, ◌+◌, ◌*◌, ◌-◌, ◌≤◌, ◌<◌}
 use native.Mathlib.Omega.{arith}
 use lib.ListN.{length, length-drop, take, drop}
@@ -42,9 +42,9 @@ same_outcome {q} {p = p} {a = a} e f g h = ap₂ (λ (c n : ℕ). of_parts c n p
 
 -- ---- the batch
 
-module _ (w : List ℕ) {t : Bool} (e1 : t ≡ batch_ok w) (h1 : not t ≡ false) {C : ℕ} (e2 : C ≡ get_le 2 w 2) where
+module _ (w : List ℕ) {t : Bool} (e1 : t ≡ batch_ok w) (h1 : t ≡ true) {C : ℕ} (e2 : C ≡ get_le 2 w 2) where
   in_order_lem : batch_ok w ≡ true
-  in_order_lem = sym e1 ∙ not-false t h1
+  in_order_lem = sym e1 ∙ h1
 
   -- Its commands are few,
   pub few : C ≤ 256
@@ -80,10 +80,10 @@ module _ (p : List ℕ) {j : Judged} (e3 : j ≡ judged p) (h3 : not j.ok ≡ fa
 
 module _ (p w a : List ℕ) {t : Bool} (e1 : t ≡ batch_ok w) where
   -- BAD_BATCH
-  pub bad_header : not t ≡ true → {r : Given} → r ≡ record { code = 2; answered = 0 } → outcome r p a ≡ batch p w a
-  bad_header h i = ap (λ (r : Given). outcome r p a) i ∙ sym (batch_bad p w a (sym e1 ∙ not-true t h))
+  pub bad_header : t ≡ false → {r : Given} → r ≡ record { code = 2; answered = 0 } → outcome r p a ≡ batch p w a
+  bad_header h i = ap (λ (r : Given). outcome r p a) i ∙ sym (batch_bad p w a (sym e1 ∙ h))
 
-  module _ (h1 : not t ≡ false) {C : ℕ} (e2 : C ≡ get_le 2 w 2) where
+  module _ (h1 : t ≡ true) {C : ℕ} (e2 : C ≡ get_le 2 w 2) where
     -- BAD_OUT
     pub no_room : length a < 24 * C → {r : Given} → r ≡ record { code = 3; answered = 0 } → outcome r p a ≡ batch p w a
     unfolding n_commands

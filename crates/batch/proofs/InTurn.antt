@@ -1,11 +1,10 @@
 -- A command in its turn, with what it asks of the journal, does what `meaning` says: every op, a rollback too. Assumes nothing.
-use mathlib.Core.Bool.{Bool, true, false, cond}
+use mathlib.Core.Bool.{true, false, cond}
 use mathlib.Core.List.{List}
 use mathlib.Core.Option.{Option, none, some}
 use mathlib.Core.Path.{◌≡◌, refl, sym, ap, ◌∙◌, subst}
-use Prim.Native.Nat.{ℕ, ◌≤◌}
+use Prim.Native.Nat.{ℕ}
 use native.Mathlib.Decide.{ℕ_discrete}
-use native.Mathlib.Omega.{arith}
 use lib.Dec.{eqb}
 use Rattle.meaning.specs.Layout.{within}
 use Rattle.meaning.specs.Pool.{Pool}
@@ -13,19 +12,16 @@ use Rattle.meaning.specs.Change.{Mark, rollback}
 use Rattle.meaning.specs.Cursor.{State, nowhere, kind, cursor_tree}
 use Rattle.meaning.specs.Command.{answer, Performed, perform}
 use Rattle.meaning.specs.States.{GoodState, Parsed}
-use Rattle.meaning.proofs.Clauses.{within_is}
 use Rattle.meaning.proofs.Facts.{test}
 use Rattle.slots.specs.Change.{Image}
 use Rattle.slots.specs.Image.{body_of, head_of, shown_of}
-use Rattle.journal.specs.Journal.{roll_back_n}
 use Rattle.journal.specs.declared.Entry.{Entry}
 use Rattle.journal.proofs.Unrolling.{roll_state}
 use Rattle.cursor.specs.Tests.{aimed_n}
-use Rattle.cursor.specs.Work.{no_mark, Work, begun_n, Did}
+use Rattle.cursor.specs.Work.{no_mark, Work, begun_n}
 use Rattle.cursor.specs.declared.command.Command.{Command}
-use Rattle.cursor.specs.declared.state.Mark.{Mark as CodeMark}
 use Rattle.ops.specs.Ops.{settled_n, rollback_n}
-use Rattle.ops.specs.Perform.{alters, settles, settle_n, Out, settled_of, at_op, perform_n}
+use Rattle.ops.specs.Perform.{settles, settle_n, Out, settled_of, at_op, perform_n}
 use Rattle.ops.specs.Image.{mark_of, work_in, meant_by}
 use Rattle.ops.specs.declared.mark.Settled.{Settled}
 use Rattle.ops.proofs.Agreeing.{Agrees, shut}

@@ -3,7 +3,7 @@ use mathlib.Core.Bool.{Bool, true, false, cond}
 use mathlib.Core.List.{List}
 use mathlib.Core.Option.{Option, none, some}
 use mathlib.Core.Path.{◌≡◌, refl, ap, ◌∙◌, subst}
-use Prim.Native.Nat.{ℕ, suc, ◌+◌, ◌<◌, ◌≤◌}
+use Prim.Native.Nat.{ℕ, suc, ◌+◌, ◌<◌}
 use native.Mathlib.Omega.{arith}
 use lib.Dec.{eqb}
 use lib.ListN.{length, set, length-set}
@@ -68,7 +68,7 @@ unfolding rec_of record_of
 back x r = refl
 
 -- The journal after a command keeps the changes of the mark after it.
-pub marks_notes : {j k : Option Mark} (n : ℕ) (es : List Entry) (d : Did) → Marks d j k → n < length es → Notes j n es
+pub marks_notes : {j : Option Mark} (n : ℕ) (es : List Entry) (d : Did) {k : Option Mark} → Marks d j k → n < length es → Notes j n es
     → Notes k (count_n n d.change) (noted_n es n d)
 unfolding count_n noted within change_of changes_in
 marks_notes n es d (same i) h l = rw (count_at n es d 0 i, noted_at n es d 0 i) l

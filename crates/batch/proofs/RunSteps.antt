@@ -1,7 +1,7 @@
 -- The commands of a batch turn by turn, as the loop has them. Assumes nothing.
 use mathlib.Core.Bool.{Bool, true, false, cond}
 use mathlib.Core.List.{List}
-use mathlib.Core.Path.{◌≡◌, refl, sym, ap, ap₂, ◌∙◌}
+use mathlib.Core.Path.{◌≡◌, refl, ap, ap₂, ◌∙◌}
 use Prim.Native.Nat.{ℕ, suc, ◌+◌, ◌*◌, ◌-◌, ◌<◌, ◌≤◌}
 use native.Mathlib.Omega.{arith}
 use borrow.Author.Tests.{eq-eqb, ne_eqb}
@@ -28,7 +28,7 @@ use Rattle.ops.specs.Ending.{Changed}
 use Rattle.ops.specs.Ops.{settled_n, mark_n, rollback_n, commit_n, reset_n}
 use Rattle.ops.specs.Perform.{alters, settles, see_n, alter_n, settle_n, Out, settled_of, at_op}
 use Rattle.ops.specs.declared.mark.Settled.{Settled}
-use Rattle.batch.specs.Run.{entry_n, entry_of, count_n, noted_n, settle_all_n, end_n, turn_n, answered_n, Ran, run_n, ran_n}
+use Rattle.batch.specs.Run.{entry_n, count_n, noted_n, settle_all_n, end_n, turn_n, answered_n, Ran, run_n, ran_n}
 use Rattle.batch.proofs.OpKinds.{alters_settles}
 
 -- ---- what is journalled by an op that settles a mark or resets

@@ -5,7 +5,6 @@ use mathlib.Core.List.{List, ◌∷◌, ◌++◌, append-nil, append_assoc, map}
 use mathlib.Core.Option.{Option, none, some}
 use mathlib.Core.Path.{◌≡◌, refl, sym, ap, ap₂, ◌∙◌, subst}
 use Prim.Native.Nat.{ℕ, zero, suc, ◌+◌, ◌*◌, ◌≤◌, ◌<◌}
-use native.Mathlib.Decide.{ℕ_discrete}
 use native.Mathlib.Omega.{arith}
 use lib.Dec.{eqb}
 use lib.ListN.{length, drop, length-append, length-drop}
@@ -27,7 +26,6 @@ use Rattle.journal.specs.declared.Entry.{Entry}
 use Rattle.journal.proofs.Unrolling.{roll_state}
 use Rattle.cursor.specs.Tests.{command_n}
 use Rattle.cursor.specs.Work.{Work, Did}
-use Rattle.cursor.specs.declared.command.Command.{Command as CodeCommand}
 use Rattle.ops.specs.Perform.{Out}
 use Rattle.ops.specs.Image.{mark_of, work_in, meant_by}
 use Rattle.ops.proofs.Agreeing.{Agrees}

@@ -7,7 +7,6 @@ use native.Mathlib.Omega.{arith}
 use lib.Dec.{eqb, leb}
 use lib.ListN.{length, take, drop}
 use lib.Seq.{drop-drop}
-use borrow.Author.Tests.{not-true, not-false}
 use Rattle.fields.specs.Number.{get_le}
 use Rattle.meaning.specs.Layout.{within, at}
 use Rattle.meaning.specs.Pool.{n_slots, n_trees, records, tree_in, stamp_in, start_in, len_in}
@@ -53,12 +52,12 @@ module _ (b : List ℕ) (t x g : ℕ) {n m : ℕ} (ne : n ≡ get_le 2 b 4) (me 
   unfolding handle_ok
   handle_is = rw named (sym (and_assoc (within 1 (n_trees b) t) (within 1 (n_slots b) x) _))
 
-  pub handle_none : not v ≡ true → false ≡ handle_ok b t x g
-  handle_none h = simp (handle_is, not-true v h)
+  pub handle_none : v ≡ false → false ≡ handle_ok b t x g
+  handle_none h = simp (handle_is, h)
 
-  module _ (vh : not v ≡ false) where
+  module _ (vh : v ≡ true) where
     slot_in : (1 ≤ x) × (x ≤ n_slots b)
-    slot_in = within_is 1 (n_slots b) x (both (within 1 (n_trees b) t) (within 1 (n_slots b) x) (sym named ∙ not-false v vh)).1
+    slot_in = within_is 1 (n_slots b) x (both (within 1 (n_trees b) t) (within 1 (n_slots b) x) (sym named ∙ vh)).1
 
     pub slot_low : 1 ≤ x
     slot_low = slot_in.0
@@ -71,7 +70,7 @@ module _ (b : List ℕ) (t x g : ℕ) {n m : ℕ} (ne : n ≡ get_le 2 b 4) (me 
         → z ≡ handle_ok b t x g
     slot_matches e =
         let w : 32 + 8 * n + 32 * (x - 1) + 32 - (32 + 8 * n + 32 * (x - 1)) ≡ 32 = omega arith in
-        simp (handle_is, not-false v vh)
+        simp (handle_is, vh)
         (e
         ∙ ap (λ (k : ℕ). matches t g (take k (drop (32 + 8 * n + 32 * (x - 1)) b))) w
         ∙ ap (λ (k : ℕ). matches t g (take 32 (drop (32 + 8 * k + 32 * (x - 1)) b))) trees_are
@@ -80,25 +79,25 @@ module _ (b : List ℕ) (t x g : ℕ) {n m : ℕ} (ne : n ≡ get_le 2 b 4) (me 
 -- ---- the place of the name
 
 module _ (b : List ℕ) (t x g : ℕ) {s : Bool} (se : s ≡ sound b) where
-  pub unsound : not s ≡ true → no_place ≡ place_of b t x g
-  unsound h = let k : sound b ≡ false = sym se ∙ not-true s h in sym (place_is b t x g ∙ simp k refl)
+  pub unsound : s ≡ false → no_place ≡ place_of b t x g
+  unsound h = let k : sound b ≡ false = sym se ∙ h in sym (place_is b t x g ∙ simp k refl)
 
-  module _ (sh : not s ≡ false) where
+  module _ (sh : s ≡ true) where
     is_good : sound b ≡ true
-    is_good = sym se ∙ not-false s sh
+    is_good = sym se ∙ sh
 
     pub room : 32 + 8 * n_trees b + 32 * n_slots b ≤ length b
     room = omega (arith, (clauses b is_good).head.length_is)
 
     module _ {h : Bool} (he : h ≡ handle_ok b t x g) where
-      pub refused : not h ≡ true → no_place ≡ place_of b t x g
+      pub refused : h ≡ false → no_place ≡ place_of b t x g
       refused k =
-          let j : handle_ok b t x g ≡ false = sym he ∙ not-true h k in
+          let j : handle_ok b t x g ≡ false = sym he ∙ k in
           sym (place_is b t x g ∙ simp (is_good, j) refl)
 
-      module _ (hh : not h ≡ false) where
+      module _ (hh : h ≡ true) where
         taken : handle_ok b t x g ≡ true
-        taken = sym he ∙ not-false h hh
+        taken = sym he ∙ hh
 
         slot : (1 ≤ x) × (x ≤ n_slots b)
         unfolding handle_ok

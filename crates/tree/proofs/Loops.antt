@@ -66,10 +66,10 @@ module _ (m : List ℕ) (p : ℕ) (e d : Dir) (k : ℕ) (n : k ≡ 0 → ⊥) {z
     unfolding up_n
     up_open inv = rw f (sym (alike_is d e _ _) ∙ simp (ne_eqb p 0 h) at (rw (above_0 k n) at inv))
 
-    pub up_here : not a ≡ true → up_n k m p e d ≡ z → p ≡ z
+    pub up_here : a ≡ false → up_n k m p e d ≡ z → p ≡ z
     up_here g inv = rw g at (up_open inv)
 
-    pub up_on : not a ≡ false → {q : ℕ} → q ≡ get_n m p parent → {s : Dir} → s ≡ side_n m q p → up_n k m p e d ≡ z → up_n (k - 1) m q s d ≡ z
+    pub up_on : a ≡ true → {q : ℕ} → q ≡ get_n m p parent → {s : Dir} → s ≡ side_n m q p → up_n k m p e d ≡ z → up_n (k - 1) m q s d ≡ z
     up_on g i j inv = simp (j, i) (rw g at (up_open inv))
 
 -- ---- the search

@@ -11,10 +11,10 @@ pub returns-then-at-eq0 : goal.returns-then-at-eq0
 returns-then-at-eq0 c = up_none _ _ _ _ _ c.loop-fuel-test.true c.if-at-eq0.true c.loop-fuel.invariant
 
 pub returns-then-not-is : goal.returns-then-not-is
-returns-then-not-is c = up_here _ _ _ _ _ c.loop-fuel-test.true c.if-at-eq0.false c.is.ensures c.if-not-is.true-raw c.loop-fuel.invariant
+returns-then-not-is c = up_here _ _ _ _ _ c.loop-fuel-test.true c.if-at-eq0.false c.is.ensures c.if-not-is.true c.loop-fuel.invariant
 
 pub loop-fuel-preserved : goal.loop-fuel-preserved
-loop-fuel-preserved c = up_on _ _ _ _ _ c.loop-fuel-test.true c.if-at-eq0.false c.is.ensures c.if-not-is.false-raw
+loop-fuel-preserved c = up_on _ _ _ _ _ c.loop-fuel-test.true c.if-at-eq0.false c.is.ensures c.if-not-is.false
     c.get_parent-q.ensures c.parent_direction-side.ensures c.loop-fuel.invariant
 
 pub returns : goal.returns

@@ -1,0 +1,12 @@
+-- `hex_digit`: one of two rows of characters.
+use borrow.Author.Tests.{lt-ltb, le-ltb}
+use Rattle.lines.specs.Text.{hex_digit}
+use Rattle.lines.proofs.text.hex_digit.Goals as goal
+
+pub returns-then-n-lt10 : goal.returns-then-n-lt10
+unfolding hex_digit
+returns-then-n-lt10 c = simp (lt-ltb _ _ c.if-n-lt10.true)
+
+pub returns : goal.returns
+unfolding hex_digit
+returns c = simp (le-ltb _ _ c.if-n-lt10.false)

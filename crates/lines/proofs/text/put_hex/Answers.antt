@@ -11,7 +11,7 @@ pub bounds-name-i : goal.bounds-name-i
 bounds-name-i c = omega arith
 
 pub hex_digit-requires : goal.hex_digit-requires
-hex_digit-requires c = omega (arith, c.shared_slice_known-in-loop-i-1.given c.loop-i.i)
+hex_digit-requires c = omega (arith, c.type_inv.name c.loop-i.i)
 
 pub put_byte-next-requires : goal.put_byte-next-requires
 put_byte-next-requires c = hex_fits _ _ c.loop-i-test.true c.loop-i.invariant.1

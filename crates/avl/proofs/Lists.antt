@@ -7,7 +7,7 @@ use Rattle.avl.specs.Tree.{Dir, left, right, flip, alike, Bal, even, heavy, Lean
 use Rattle.avl.specs.Way.{Way, root, step, plug, before, after}
 use Rattle.avl.specs.Rotate.{Climb, stop, on, tree, then, child_bal, node_bal, double, turn, rotate, grown, shrunk, climb}
 use Rattle.avl.specs.Edit.{insert}
-use Rattle.avl.proofs.Sides.{flip_flip, Sides, same, opposite, sides, alike_same, alike-opposite, alike-reverse, branch_flip, Parts, bare, parts, apart, by_side, list_leaf, list_branch, list_near, list_far, rotate_branch, double_branch}
+use Rattle.avl.proofs.Sides.{flip_flip, Sides, same, opposite, sides, alike_same, alike_opposite, alike_reverse, branch_flip, Parts, bare, parts, apart, by_side, list_leaf, list_branch, list_near, list_far, rotate_branch, double_branch}
 
 -- ---- a tree by its parts
 
@@ -26,7 +26,7 @@ list_plug e (step d s b z p) t = list_plug e p (branch d t s b z) ∙ simp (list
         → before e p ++ (alike e d (list e t ++ (s ∷ list e z)) (list e z ++ (s ∷ list e t)) ++ after e p)
         ≡ alike e d (before e p) (before e p ++ (list e z ++ (s ∷ []))) ++ (list e t ++ alike e d ((s ∷ list e z) ++ after e p) (after e p))
     go same = simp (alike_same, append_assoc)
-    go opposite = simp (alike-opposite, append_assoc)
+    go opposite = simp (alike_opposite, append_assoc)
 
 -- two trees with one list, at one place
 pub list_place : (e : Dir) (p : Way) (t u : Tree) → list e t ≡ list e u → list e (plug p t) ≡ list e (plug p u)
@@ -45,8 +45,8 @@ after_flip e (step d s b z p) = go (after_flip e p) (sides e d)
   where
     go : {d : Dir} → after (flip e) p ≡ reverse (before e p) → Sides e d
         → alike (flip e) d ((s ∷ list (flip e) z) ++ after (flip e) p) (after (flip e) p) ≡ reverse (alike e d (before e p) (before e p ++ (list e z ++ (s ∷ []))))
-    go h same = simp (alike_same, alike-reverse) h
-    go h opposite = simp (alike_same, alike-opposite, reverse-append, append_assoc, list_flip e z, h)
+    go h same = simp (alike_same, alike_reverse) h
+    go h opposite = simp (alike_same, alike_opposite, reverse-append, append_assoc, list_flip e z, h)
 
 pub before_flip : (e : Dir) (p : Way) → before (flip e) p ≡ reverse (after e p)
 before_flip e p =

@@ -9,7 +9,7 @@ use Rattle.avl.specs.Rotate.{shrunk, climb}
 use Rattle.avl.specs.Edit.{end, bottom_child, taken, replace, remove}
 use Rattle.avl.specs.Order.{first}
 use Rattle.avl.proofs.Lists.{list_plug, list_flip, after_flip, before_flip, shrunk_list, climb_list}
-use Rattle.avl.proofs.Sides.{flip_flip, Sides, same, opposite, sides, alike_same, alike-reverse, node_branch, Parts, bare, parts, apart, by_side, list_leaf, list_near, end_branch}
+use Rattle.avl.proofs.Sides.{flip_flip, Sides, same, opposite, sides, alike_same, alike_reverse, node_branch, Parts, bare, parts, apart, by_side, list_leaf, list_near, end_branch}
 
 -- ---- the end of a tree on one side
 
@@ -115,11 +115,11 @@ replace_far d a s c w b z p =
     let tail : n ∷ rest ≡ list f (branch f a s c w) ++ after f p =
     ap (λ (k : ℕ). k ∷ rest) (end_slot f a s c w root q)
     ∙ sym (end_list f a s c w q)
-    ∙ ap (λ (l : List ℕ). list f (branch f a s c w) ++ l) (alike-reverse d _ _) in
+    ∙ ap (λ (l : List ℕ). list f (branch f a s c w) ++ l) (alike_reverse d _ _) in
     ap (list f) (replace_branch d a s c w b z p)
     ∙ climb_list shrunk shrunk_list f e.way e.part
     ∙ list_plug f e.way e.part
-    ∙ ap (λ (l : List ℕ). l ++ (list f e.part ++ after f e.way)) (end_before f a s c w q ∙ alike-reverse d _ _)
+    ∙ ap (λ (l : List ℕ). l ++ (list f e.part ++ after f e.way)) (end_before f a s c w q ∙ alike_reverse d _ _)
     ∙ append_assoc (before f p) (list f z ++ (n ∷ [])) rest
     ∙ ap (λ (l : List ℕ). before f p ++ l) (append_assoc (list f z) (n ∷ []) rest)
     ∙ ap (λ (l : List ℕ). before f p ++ (list f z ++ l)) tail
@@ -149,7 +149,7 @@ replace_list e d l s c r b z p = rw (node_branch (flip d) l s c r) (go (sides d 
 
     go : {e : Dir} → Sides d e → list e (replace d t b z p) ≡ before e p ++ (alike e d (list e t ++ list e z) (list e z ++ list e t) ++ after e p)
     go same = simp alike_same (replace_near d t b z p far_side)
-    go opposite = simp alike-reverse far_side
+    go opposite = simp alike_reverse far_side
 
 both_sides : (e d : Dir) (l r : Tree)
     → alike e d (list e (pick d l r) ++ list e (pick d r l)) (list e (pick d r l) ++ list e (pick d l r)) ≡ list e (pick e l r) ++ list e (pick e r l)

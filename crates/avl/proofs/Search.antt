@@ -8,7 +8,7 @@ use Rattle.avl.specs.Way.{Way, root, step, plug, depth, before, after}
 use Rattle.avl.specs.Search.{Spot, three, toward, seek, entry, on_the_way, compared}
 use Rattle.avl.specs.Order.{nil, more, Sorted, Order, Follows}
 use Rattle.avl.proofs.Lists.{list_plug}
-use Rattle.avl.proofs.Sides.{Sides, same, opposite, sides, alike_same, alike-opposite}
+use Rattle.avl.proofs.Sides.{Sides, same, opposite, sides, alike_same, alike_opposite}
 use Rattle.avl.proofs.Sorting.{all_front, all_back, all_head, all_append, sorted_front, sorted_back, sorted_tail, sorted_below, sorted_above, all_map, Says}
 
 abbrev lt : Ordering
@@ -127,7 +127,7 @@ seek_place cmp e (step d s b z q) u h k = go (sides e d) h k (seek_place cmp e q
         let h₂ : Says cmp (toward (flip e)) (before e q) = simp alike_same at h in
         ih h₂ (all_back (s ∷ list e z) (after e q) k₂) ∙ seek_step cmp e u s b z q (all_head k₂)
     go opposite h k ih =
-        let k₂ : Says cmp (toward e) (after e q) = simp alike-opposite at k in
-        let h₂ : Says cmp (toward (flip e)) (before e q ++ (list e z ++ (s ∷ []))) = simp alike-opposite at h in
+        let k₂ : Says cmp (toward e) (after e q) = simp alike_opposite at k in
+        let h₂ : Says cmp (toward (flip e)) (before e q ++ (list e z ++ (s ∷ []))) = simp alike_opposite at h in
         let g = all_back (list e z) (s ∷ []) (all_back (before e q) (list e z ++ (s ∷ [])) h₂) in
         ih (all_front (before e q) (list e z ++ (s ∷ [])) h₂) k₂ ∙ seek_step cmp (flip e) u s b z q (all_head g)

@@ -29,13 +29,13 @@ pub alike_same {ℓ} : {A : Type ℓ} (d : Dir) (a c : A) → alike d d a c ≡ 
 alike_same left a c = refl
 alike_same right a c = refl
 
-pub alike-opposite {ℓ} : {A : Type ℓ} (d : Dir) (a c : A) → alike d (flip d) a c ≡ c
-alike-opposite left a c = refl
-alike-opposite right a c = refl
+pub alike_opposite {ℓ} : {A : Type ℓ} (d : Dir) (a c : A) → alike d (flip d) a c ≡ c
+alike_opposite left a c = refl
+alike_opposite right a c = refl
 
-pub alike-reverse {ℓ} : {A : Type ℓ} (d : Dir) (a c : A) → alike (flip d) d a c ≡ c
-alike-reverse left a c = refl
-alike-reverse right a c = refl
+pub alike_reverse {ℓ} : {A : Type ℓ} (d : Dir) (a c : A) → alike (flip d) d a c ≡ c
+alike_reverse left a c = refl
+alike_reverse right a c = refl
 
 -- a balance, as it is seen from side d
 pub data View (d : Dir) : Bal → Type 0 where
@@ -70,7 +70,7 @@ unfolding tilt
 tilt_even d = refl
 
 -- balances and tilts, seen from a side
-pub ruleset facing = (flip_flip, alike_same, alike-opposite, alike-reverse, tilt_same, tilt_opposite, tilt_reverse, tilt_even)
+pub ruleset facing = (flip_flip, alike_same, alike_opposite, alike_reverse, tilt_same, tilt_opposite, tilt_reverse, tilt_even)
 
 -- ---- trees by a side
 
@@ -118,7 +118,7 @@ pub list_near : (d : Dir) (a : Tree) (s : ℕ) (b : Bal) (z : Tree) → list d (
 list_near d a s b z = list_branch d d a s b z ∙ alike_same d _ _
 
 pub list_far : (d : Dir) (a : Tree) (s : ℕ) (b : Bal) (z : Tree) → list (flip d) (branch d a s b z) ≡ list (flip d) z ++ (s ∷ list (flip d) a)
-list_far d a s b z = list_branch (flip d) d a s b z ∙ alike-reverse d _ _
+list_far d a s b z = list_branch (flip d) d a s b z ∙ alike_reverse d _ _
 
 pub top_branch : (d : Dir) (a : Tree) (s : ℕ) (b : Bal) (z : Tree) → top (branch d a s b z) ≡ s
 unfolding branch

@@ -9,7 +9,7 @@ use Rattle.avl.specs.Search.{upwards, walk_dir}
 use Rattle.avl.specs.Order.{first}
 use Rattle.avl.proofs.Lists.{list_plug, list_flip, after_flip, before_flip, insert_list}
 use Rattle.avl.proofs.Removal.{bottom_first}
-use Rattle.avl.proofs.Sides.{flip_flip, Sides, same, opposite, sides, alike_same, alike-opposite, alike-reverse, by_side, list_leaf, list_near, list_far, edge_branch}
+use Rattle.avl.proofs.Sides.{flip_flip, Sides, same, opposite, sides, alike_same, alike_opposite, alike_reverse, by_side, list_leaf, list_near, list_far, edge_branch}
 
 -- ---- neighbours
 
@@ -21,8 +21,8 @@ upwards_first d (step e s b z p) = go (upwards_first d p) (sides d e)
   where
     go : {e : Dir} → upwards d p ≡ first (after (flip d) p) → Sides d e
         → alike d e (upwards d p) s ≡ first (alike (flip d) e ((s ∷ list (flip d) z) ++ after (flip d) p) (after (flip d) p))
-    go h same = simp (alike_same, alike-reverse) h
-    go h opposite = simp (alike_same, alike-opposite)
+    go h same = simp (alike_same, alike_reverse) h
+    go h opposite = simp (alike_same, alike_opposite)
 
 first_front : (a : List ℕ) (s : ℕ) (b c : List ℕ) → first ((a ++ (s ∷ b)) ++ c) ≡ first (a ++ (s ∷ b))
 first_front [] s b c = refl
@@ -73,12 +73,12 @@ beside_plug d a s b z p = edge_plug (flip d) a (step d s b z p)
 pub beside_before : (d : Dir) (a : Tree) (s : ℕ) (b : Bal) (z : Tree) (p : Way)
     → before (flip d) (beside d a s b z p) ≡ before (flip d) p ++ (list (flip d) z ++ (s ∷ []))
 unfolding beside before
-beside_before d a s b z p = edge_before (flip d) a (step d s b z p) ∙ alike-reverse d _ _
+beside_before d a s b z p = edge_before (flip d) a (step d s b z p) ∙ alike_reverse d _ _
 
 pub beside_after : (d : Dir) (a : Tree) (s : ℕ) (b : Bal) (z : Tree) (p : Way) → after (flip d) (beside d a s b z p) ≡ list (flip d) a ++ after (flip d) p
 unfolding beside after
 beside_after d a s b z p =
-    edge_after (flip d) a (step d s b z p) ∙ ap (λ (l : List ℕ). list (flip d) a ++ l) (alike-reverse d _ _)
+    edge_after (flip d) a (step d s b z p) ∙ ap (λ (l : List ℕ). list (flip d) a ++ l) (alike_reverse d _ _)
 
 -- an insertion beside a record: in the direction d the new one comes right after it
 pub insert_beside : (d : Dir) (a : Tree) (s : ℕ) (b : Bal) (z : Tree) (p : Way) (x : ℕ)

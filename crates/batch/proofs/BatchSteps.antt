@@ -43,18 +43,18 @@ same_outcome {q} {p = p} {a = a} e f g h = ap₂ (λ (c n : ℕ). of_parts c n p
 -- ---- the batch
 
 module _ (w : List ℕ) {t : Bool} (e1 : t ≡ batch_ok w) (h1 : t ≡ true) {C : ℕ} (e2 : C ≡ get_le 2 w 2) where
-  in_order_lem : batch_ok w ≡ true
-  in_order_lem = sym e1 ∙ h1
+  in_order : batch_ok w ≡ true
+  in_order = sym e1 ∙ h1
 
   -- Its commands are few,
   pub few : C ≤ 256
   unfolding n_commands
-  few = omega (arith, e2, (order_is w in_order_lem).0)
+  few = omega (arith, e2, (order_is w in_order).0)
 
   -- and its names begin within it.
   pub names_fit : 16 + 24 * C ≤ length w
   unfolding n_commands
-  names_fit = omega (arith, e2, (order_is w in_order_lem).1)
+  names_fit = omega (arith, e2, (order_is w in_order).1)
 
 -- ---- the pool
 
@@ -87,7 +87,7 @@ module _ (p w a : List ℕ) {t : Bool} (e1 : t ≡ batch_ok w) where
     -- BAD_OUT
     pub no_room : length a < 24 * C → {r : Given} → r ≡ record { code = 3; answered = 0 } → outcome r p a ≡ batch p w a
     unfolding n_commands
-    no_room s i = ap (λ (r : Given). outcome r p a) i ∙ sym (batch_short p w a (in_order_lem w e1 h1 e2) (omega (arith, e2, s)))
+    no_room s i = ap (λ (r : Given). outcome r p a) i ∙ sym (batch_short p w a (in_order w e1 h1 e2) (omega (arith, e2, s)))
 
     module _ (h2 : 24 * C ≤ length a) {j : Judged} (e3 : j ≡ judged p) where
       room : 24 * n_commands w ≤ length a
@@ -98,7 +98,7 @@ module _ (p w a : List ℕ) {t : Bool} (e1 : t ≡ batch_ok w) where
       pub not_sound : not j.ok ≡ true → {r : Given} → r ≡ record { code = 1; answered = 0 } → outcome r p a ≡ batch p w a
       not_sound h i =
           ap (λ (r : Given). outcome r p a) i
-          ∙ sym (batch_unsound p w a (in_order_lem w e1 h1 e2) room (sym (judged_ok p e3) ∙ not-true j.ok h))
+          ∙ sym (batch_unsound p w a (in_order w e1 h1 e2) room (sym (judged_ok p e3) ∙ not-true j.ok h))
 
       -- The commands carried out, and the head stored.
       module _ (h3 : not j.ok ≡ false) {h : Head} (e4 : h ≡ load_n p j.live j.free) where
@@ -136,7 +136,7 @@ module _ (p w a : List ℕ) {t : Bool} (e1 : t ≡ batch_ok w) where
         carried_out_lem pb wb {m} {o} {b} {g} ran stored =
             let q = batch p w a in
             let sound_is = is_sound p e3 h3 e4 in
-            let order = in_order_lem w e1 h1 e2 in
+            let order = in_order w e1 h1 e2 in
             let left : ◌≡◌ {A = List ℕ × List ℕ} (b, o) (q.pool, q.answers) =
             ap (λ (l : List ℕ). (l, o)) (stored_all m b g stored)
             ∙ ap (λ (r : List ℕ × (List ℕ × Head)). (store_n (take (32 + 8 * n_trees p) p ++ r.0) r.1.1, r.1.0)) (ran_all ran)

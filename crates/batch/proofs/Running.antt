@@ -39,10 +39,10 @@ answered : (done o : List ℕ) (k : ℕ) (d : Did) (a : List ℕ) (x : Option Re
     → (x ≡ none → d.slot ≡ 0) → a ≡ answer d.code (kind d.work.cursor) d.slot x → answered_n (done ++ o) k d ≡ (done ++ a) ++ drop 24 o
 unfolding answered_n
 answered done o k d a x e h i z j =
-    let k-th = kind d.work.cursor in
-    ap (put_answer_n (done ++ o) k d.code k-th d.slot) i
-    ∙ answer_image (done ++ o) k d.code k-th d.slot x (omega (arith, length-append done o)) z
-    ∙ answer_next done o k (answer d.code k-th d.slot x) e (answer_length d.code k-th d.slot x) h
+    let k_th = kind d.work.cursor in
+    ap (put_answer_n (done ++ o) k d.code k_th d.slot) i
+    ∙ answer_image (done ++ o) k d.code k_th d.slot x (omega (arith, length-append done o)) z
+    ∙ answer_next done o k (answer d.code k_th d.slot x) e (answer_length d.code k_th d.slot x) h
     ∙ ap (λ (l : List ℕ). (done ++ l) ++ drop 24 o) (sym j)
 
 -- ---- one command in its turn

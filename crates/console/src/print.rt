@@ -1,5 +1,6 @@
 // Printing. What is written no contract can say: each function is proved safe and to end.
 use crate::space;
+
 // The number of standard output.
 const STDOUT_FILENO: i32 = 1;
 

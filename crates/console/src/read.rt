@@ -3,6 +3,7 @@ ghost use Rattle.std.specs.Prelude.{◌≡◌, min, length};
 ghost use Rattle.io.specs.Counts.{IsPrefixLen};
 
 use crate::space;
+
 // The number of standard input.
 const STDIN_FILENO: i32 = 0;
 

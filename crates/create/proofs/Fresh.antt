@@ -81,8 +81,8 @@ body_zeros : (T N X : ℕ) {a b : List ℕ} → a ≡ replicate (8 * T) 0 → b 
     → a ++ (b ++ (replicate (X - 0) 0 ++ [])) ≡ replicate (8 * T + 32 * N + X) 0
 body_zeros T N X p q =
     let e : 8 * T + (32 * N + X) ≡ 8 * T + 32 * N + X = omega arith in
-    let none-used : X - 0 ≡ X = omega arith in
-    let text = append-nil {A = ℕ} (replicate (X - 0) 0) ∙ ap (λ (k : ℕ). replicate k 0) none-used in
+    let none_used : X - 0 ≡ X = omega arith in
+    let text = append-nil {A = ℕ} (replicate (X - 0) 0) ∙ ap (λ (k : ℕ). replicate k 0) none_used in
     ap₂ ◌++◌ p (ap₂ ◌++◌ q text ∙ replicate-append-replicate (32 * N) X 0)
     ∙ replicate-append-replicate (8 * T) (32 * N + X) 0
     ∙ ap (λ (k : ℕ). replicate k 0) e

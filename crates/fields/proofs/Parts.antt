@@ -17,11 +17,11 @@ pub data Apart (a m b n : ℕ) : Type 0 where
 
 -- by cases on whether a place with its count lies within a list
 pub within? {ℓ} : {P : Type ℓ} (a n : ℕ) → (a ≤ n → P) → (n < a → P) → P
-within? {P = P} a n in-it past-it = go (leb a n) refl
+within? {P = P} a n in_it past_it = go (leb a n) refl
   where
     go : (b : Bool) → leb a n ≡ b → P
-    go true e = in-it (leb-true a n e)
-    go false e = past-it (leb-false a n e)
+    go true e = in_it (leb-true a n e)
+    go false e = past_it (leb-false a n e)
 
 -- ---- within the list, and outside it
 

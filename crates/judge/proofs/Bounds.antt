@@ -219,12 +219,12 @@ module _ (own : Bool) (N b k seen lo hi : ℕ) (l r : Walk) (p q : ℕ) where
       let d = take_apart own N b k l r h in
       let f = left_part d.left_ok in
       let g = right_part d.right_ok in
-      let last-is = ap (λ (f : Walk). f.last) d.is in
+      let last_is = ap (λ (f : Walk). f.last) d.is in
       let seen_is = ap (λ (f : Walk). f.seen) d.is in
       record {
         more = omega (arith, f.more, g.more, seen_is);
         later = λ s.
-            omega (arith, f.later s, f.more, after_is l.seen l.last k d.order (omega (arith, f.more)), g.later (omega arith), last-is);
+            omega (arith, f.later s, f.more, after_is l.seen l.last k d.order (omega (arith, f.more)), g.later (omega arith), last_is);
         few = λ s. omega (arith, g.few (omega (arith, d.room)), seen_is);
       }
 
@@ -234,10 +234,10 @@ module _ (own : Bool) (N b k seen lo hi : ℕ) (l r : Walk) (p q : ℕ) where
       → (l.ok ≡ true → after l.seen l.last k ≡ true → Same l p seen)
       → (r.ok ≡ true → after r.seen r.last hi ≡ true → Same r q (l.seen + 1))
       → Same (in_order own N b k l r) (in_bounds own b k lo hi p q) seen
-  in_bounds_node last h from ends left-grows right-grows left_part right_part =
+  in_bounds_node last h from ends left_grows right_grows left_part right_part =
       let d = take_apart own N b k l r h in
-      let f = left-grows d.left_ok in
-      let g = right-grows d.right_ok in
+      let f = left_grows d.left_ok in
+      let g = right_grows d.right_ok in
       let last_end = rw d.is at ends in
       let sl = left_part d.left_ok d.order in
       let sr = right_part d.right_ok last_end in

@@ -75,9 +75,9 @@ module _ (m : List ℕ) (rs : List (List ℕ)) (live : ℕ) (g : Agree m rs) whe
   trees_low t total (e ∷ es) s h x u p q i =
       let f = link_n m (length rs) t 14 0 (root_of e) 0 0 in
       let w = first_walk m rs live g t total e es h in
-      let all-met : f.seen ≡ count_in rs t = omega (arith, few rs t (root_of e) f w.0, trees_few m rs live g (suc t) (total + f.seen) es w.2) in
+      let all_met : f.seen ≡ count_in rs t = omega (arith, few rs t (root_of e) f w.0, trees_few m rs live g (suc t) (total + f.seen) es w.2) in
       test (eqb u t)
-      (λ z. walk_low rs t (root_of e) f w.0 all-met x (record { low = i.low; high = i.high; tree = i.tree ∙ eqb-true u t z }))
+      (λ z. walk_low rs t (root_of e) f w.0 all_met x (record { low = i.low; high = i.high; tree = i.tree ∙ eqb-true u t z }))
       (λ z. trees_low (suc t) (total + f.seen) es (omega arith) w.2 x u (omega (arith, eqb-false u t z)) (omega arith) i)
 
 pub complete : (m : List ℕ) (rs : List (List ℕ)) (T used next : ℕ) (es : List (List ℕ)) → Agree m rs → length es ≡ T

@@ -128,7 +128,7 @@ module _ (rs : List (List ℕ)) (t level u x n k y z : ℕ) (l r : Walk) where
       → left_in w ≡ y → right_in w ≡ z → (eqb l.seen 0 || ltb l.last (key_in w)) ≡ true → evenly (balance_in w) l.high r.high ≡ true
       → Passed rs t (suc level) u x n k (good (max l.high r.high + 1) r.seen r.last)
   unfolding height list
-  node_passed a d i p down-l down-r o e =
+  node_passed a d i p down_l down_r o e =
       let w = at [] rs x in
       let b = decode (balance_in w) in
       let L = a.tree in let R = d.tree in
@@ -143,7 +143,7 @@ module _ (rs : List (List ℕ)) (t level u x n k y z : ℕ) (l r : Walk) where
       record {
         tree = node L x b R;
         hung = Hangs.joined
-            (record { member = i; parent = p; left = down-l ∙ sym a.root; right = down-r ∙ sym d.root; balance = refl }) a.hung d.hung;
+            (record { member = i; parent = p; left = down_l ∙ sym a.root; right = down_r ∙ sym d.root; balance = refl }) a.hung d.hung;
         root = refl;
         even = Balanced.both a.even d.even (evenly_is (balance_in w) (height L) (height R) (rw (lh, rh) at e));
         order = ap (rising_from n k) (keys_node rs L x b R)
@@ -170,7 +170,7 @@ module _ (m : List ℕ) (rs : List (List ℕ)) (t : ℕ) (g : Agree m rs) where
       → (r.ok ≡ true → Passed rs t level x (get_n m x (child right)) (l.seen + 1) (key_n m x) r)
       → (at_node u x l r).ok ≡ true → Passed rs t (suc level) u x n k (at_node u x l r)
   unfolding joined
-  passed_node level u x n k l r low left_passed right-passed h =
+  passed_node level u x n k l r low left_passed right_passed h =
       let T = eqb (tree_n m x) t && eqb (get_n m x parent) u in
       let O = eqb l.seen 0 || ltb l.last (key_n m x) in
       let E = evenly (get_n m x balance) l.high r.high in
@@ -188,7 +188,7 @@ module _ (m : List ℕ) (rs : List (List ℕ)) (t : ℕ) (g : Agree m rs) where
       let key = g.key_is x low high in
       let same : at_node u x l r ≡ here = a.1 ∙ (b.1 ∙ c.1) in
       let p : Passed rs t (suc level) u x n k here =
-      node_passed rs t level u x n k (get_n m x (child left)) (get_n m x (child right)) l r (left_passed b₁.0) (rw key at (right-passed c₁.0))
+      node_passed rs t level u x n k (get_n m x (child left)) (get_n m x (child right)) l r (left_passed b₁.0) (rw key at (right_passed c₁.0))
       (record { low = low; high = high; tree = sym (g.tree_is x low high) ∙ eqb-true (tree_n m x) t a₂.0 })
       (sym (g.parent_is x low high) ∙ eqb-true (get_n m x parent) u a₂.1) (sym (g.left_is x low high)) (sym (g.right_is x low high))
       (rw key at b₂.1) (rw (g.balance_is x low high) at c₁.1) in
@@ -265,13 +265,13 @@ module _ (m : List ℕ) (rs : List (List ℕ)) (t : ℕ) (g : Agree m rs) where
       let rise = rw len at (rising_parts n k (keys rs L) (key_in w) (keys rs R) (sym (ap (rising_from n k) (keys_node rs L x b R)) ∙ o)) in
       let many = list_node rs L x b R n in
       let key = g.key_is x i.low i.high in
-      let at-l : link_n m (length rs) t level x (get_n m x (child left)) n k ≡ walked rs n k L =
+      let at_l : link_n m (length rs) t level x (get_n m x (child left)) n k ≡ walked rs n k L =
       rw (g.left_is x i.low i.high ∙ j.left) (passes low level x n k L a p rise.0 (omega arith) (omega arith) (omega arith)) in
-      let at-r : link_n m (length rs) t level x (get_n m x (child right)) (n' + 1) (key_n m x) ≡ walked rs (n' + 1) (key_in w) R =
+      let at_r : link_n m (length rs) t level x (get_n m x (child right)) (n' + 1) (key_n m x) ≡ walked rs (n' + 1) (key_in w) R =
       rw (g.right_is x i.low i.high ∙ j.right, key)
       (passes low level x (n' + 1) (key_in w) R c q rise.2 (omega arith) (omega arith) (omega arith)) in
       link_node level u x n k i.low
-      ∙ (ap (λ (f : Walk). at_node u x f (link_n m (length rs) t level x (get_n m x (child right)) (f.seen + 1) (key_n m x))) at-l
-      ∙ (ap (at_node u x (walked rs n k L)) at-r
+      ∙ (ap (λ (f : Walk). at_node u x f (link_n m (length rs) t level x (get_n m x (child right)) (f.seen + 1) (key_n m x))) at_l
+      ∙ (ap (at_node u x (walked rs n k L)) at_r
       ∙ (node_walked u x n k L R i j.parent (low x i) (omega arith) (omega arith) (rw j.balance at e) (omega arith) rise.1
       ∙ ap (λ (b : Bal). walked rs n k (node L x b R)) (sym j.balance))))

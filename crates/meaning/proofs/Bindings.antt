@@ -47,10 +47,10 @@ module _ (p : Pool) (t k : ℕ) (name : List ℕ) (a : Addable p t k name) where
   added_rec = let f = free_slot_lem p a.slot in at_put_same none p.slots (free_slot p) (some (new_rec t k name p)) f.0 f.1
 
   -- After an addition a slot holds what it held before, or the new record.
-  added-cases {ℓ} : {P : Type ℓ} (y : ℕ) (q : Rec) → rec_at (add_rec t k name p) y ≡ some q → (rec_at p y ≡ some q → P)
+  added_cases {ℓ} : {P : Type ℓ} (y : ℕ) (q : Rec) → rec_at (add_rec t k name p) y ≡ some q → (rec_at p y ≡ some q → P)
       → (q.stamp ≡ p.next → P) → P
   unfolding rec_at add_rec put_rec with_trees with_next with_text new_rec
-  added-cases y q e old new =
+  added_cases y q e old new =
       let f = free_slot_lem p a.slot in
       test (eqb y (free_slot p))
       (λ u. new (sym (ap (λ (r : Rec). r.stamp) (some-injective _ _
@@ -114,7 +114,7 @@ pub record Only (x g : ℕ) (E : Rec → List ℕ → Type 0) (p : Pool) : Type 
 
 -- P holds of the pool at the open mark, if there is one
 pub data AtMark (P : Pool → Type 0) : Option Pool → Type 0 where
-  no_mark_lem : AtMark P none
+  no_mark : AtMark P none
   at_mark : {p : Pool} → P p → AtMark P (some p)
 
 -- the stamp g was handed out, and the handle of slot x and stamp g means at most what E says, in the pool and after a rollback
@@ -150,7 +150,7 @@ bound_now x g E = record {
   adds = λ w p t k name good a h. record {
     handed_out = omega (arith, h.handed_out, added_next p t k name a);
     now = record {
-      only = λ q e s. added-cases p t k name a x q e
+      only = λ q e s. added_cases p t k name a x q e
           (λ old. subst (E q) (sym (ap (λ (l : List ℕ). part l q.start q.len) (added_text p t k name a)
           ∙ part_append_left p.text name q.start q.len (good.recs x q old).name_fits)) (h.now.only q old s))
           (λ new. absurd (omega (arith, h.handed_out, new, s)));
@@ -168,21 +168,21 @@ bound_now x g E = record {
 pub bound_keeps : (x g : ℕ) (E : Rec → List ℕ → Type 0) → Keeps (Bound x g E)
 bound_keeps x g E =
     let on = bound_now x g E in
-    let as-now : (w : Option Pool) (p : Pool) → Bound x g E w p → BoundNow x g E w p = λ w p h. record { handed_out = h.handed_out; now = h.now } in
+    let as_now : (w : Option Pool) (p : Pool) → Bound x g E w p → BoundNow x g E w p = λ w p h. record { handed_out = h.handed_out; now = h.now } in
     let back : (w v : Option Pool) (p : Pool) → AtMark (Only x g E) v → BoundNow x g E w p → Bound x g E v p =
     λ w v p m h. record { handed_out = h.handed_out; now = h.now; marked = m } in
     record {
       forward = record {
-        takes = λ w p y r good live h. back w w (drop_rec y r p) h.marked (on.takes w p y r good live (as-now w p h));
-        adds = λ w p t k name good a h. back w w (add_rec t k name p) h.marked (on.adds w p t k name good a (as-now w p h));
-        opens = λ w p good h. back w (some p) p (at_mark h.now) (as-now w p h);
-        shuts = λ w p h. back w none p no_mark_lem (as-now w p h);
-        empties = λ w p h. back none none (emptied p) no_mark_lem (on.empties w p (as-now w p h));
+        takes = λ w p y r good live h. back w w (drop_rec y r p) h.marked (on.takes w p y r good live (as_now w p h));
+        adds = λ w p t k name good a h. back w w (add_rec t k name p) h.marked (on.adds w p t k name good a (as_now w p h));
+        opens = λ w p good h. back w (some p) p (at_mark h.now) (as_now w p h);
+        shuts = λ w p h. back w none p no_mark (as_now w p h);
+        empties = λ w p h. back none none (emptied p) no_mark (on.empties w p (as_now w p h));
       };
       restores = λ p₀ p q r e h. record {
         handed_out = omega (arith, h.handed_out, e);
         now = restored_only r (marked_only h.marked);
-        marked = no_mark_lem;
+        marked = no_mark;
       };
     }
 
@@ -190,13 +190,13 @@ bound_keeps x g E =
 
 -- a slot that has one stamp now and at the open mark holds one record
 pub data SameSince : Option Pool → Pool → Type 0 where
-  no_mark_lem : {p : Pool} → SameSince none p
+  no_mark : {p : Pool} → SameSince none p
   since : {p₀ p : Pool} → ((x : ℕ) (q : Rec) → rec_at p₀ x ≡ some q → q.stamp < p.next)
       → ((x : ℕ) (q r : Rec) → rec_at p₀ x ≡ some q → rec_at p x ≡ some r → q.stamp ≡ r.stamp → q ≡ r) → SameSince (some p₀) p
 
 same_moves : {w : Option Pool} {p p' : Pool} → p.next ≤ p'.next
     → ((x : ℕ) (r : Rec) → rec_at p' x ≡ some r → r.stamp < p.next → rec_at p x ≡ some r) → SameSince w p → SameSince w p'
-same_moves n f no_mark_lem = no_mark_lem
+same_moves n f no_mark = no_mark
 same_moves {p = p} {p' = p'} n f (since {p₀ = p₀} old same) =
     since {p₀ = p₀} {p = p'} (λ x q e. omega (arith, old x q e, n)) (λ x q r e i s. same x q r e (f x r i (omega (arith, old x q e, s))) s)
 
@@ -206,12 +206,12 @@ same_keeps = record {
   forward = record {
     takes = λ w p y r good live h. same_moves (omega (arith, dropped_next p y r)) (λ x q e l. dropped_rec p y r live x q e) h;
     adds = λ w p t k name good a h. same_moves (omega (arith, added_next p t k name a))
-        (λ x q e l. added-cases p t k name a x q e (λ old. old) (λ new. absurd (omega (arith, l, new)))) h;
+        (λ x q e l. added_cases p t k name a x q e (λ old. old) (λ new. absurd (omega (arith, l, new)))) h;
     opens = λ w p good h. since (λ x q e. (good.recs x q e).stamp_high) (λ x q r e i s. some-injective q r (sym e ∙ i));
-    shuts = λ w p h. no_mark_lem;
-    empties = λ w p h. no_mark_lem;
+    shuts = λ w p h. no_mark;
+    empties = λ w p h. no_mark;
   };
-  restores = λ p₀ p q r e h. no_mark_lem;
+  restores = λ p₀ p q r e h. no_mark;
 }
 
 -- ---- a state with no open mark
@@ -223,5 +223,5 @@ shut_bound w s g e h =
     record { at_mark = w; good = g; has = record { handed_out = h.handed_out; now = h.now; marked = go s.mark g.journal e } }
   where
     go : {P : Pool → Type 0} {p : Pool} {v : Option Pool} (m : Option Mark) → Journal v m p → m ≡ none → AtMark P v
-    go none shut i = no_mark_lem
+    go none shut i = no_mark
     go (some m) (begun w₀ k) i = absurd (not_both (some m) refl i)

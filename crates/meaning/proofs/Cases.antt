@@ -10,7 +10,7 @@ use Rattle.meaning.specs.Pool.{bytes, read}
 use Rattle.meaning.specs.Sound.{sound}
 use Rattle.meaning.specs.Doors.{Outcome}
 use Rattle.meaning.proofs.Lines
-use Rattle.meaning.proofs.Lines.{Line, ◌⇒◌, add, adds, get, remove_by_key_lem, remove_handle, next, prev, last_entry, append, mark, rollback, refused◌kind◌, kind◌nothing, kind◌slot◌stamp◌key◌text◌, replies, batch_of, letters, fresh, outcome, same}
+use Rattle.meaning.proofs.Lines.{Line, ◌⇒◌, add, adds, get, remove_by_key, remove_handle, next, prev, last_entry, append, mark, rollback, refused◌kind◌, kind◌nothing, kind◌slot◌stamp◌key◌text◌, replies, batch_of, letters, fresh, outcome, same}
 
 -- key, balance, left, right; a missing child is "-"
 infix 70 ◌⟨◌⟩◌/◌
@@ -39,7 +39,7 @@ p2 = record { slots = 4; lines = adds (3 ∷ 1 ∷ 2 ∷ []); shape = 2 ⟨ 0 �
 unfoldable pub p3 : Case
 p3 = record {
   slots = 5;
-  lines = adds (2 ∷ 1 ∷ 4 ∷ 3 ∷ 5 ∷ []) ++ (remove_by_key_lem 1 ⇒ kind 0 slot 2 stamp 2 key 1 text 1 ∷ []);
+  lines = adds (2 ∷ 1 ∷ 4 ∷ 3 ∷ 5 ∷ []) ++ (remove_by_key 1 ⇒ kind 0 slot 2 stamp 2 key 1 text 1 ∷ []);
   shape = 4 ⟨ 2 ⟩ (2 ⟨ 1 ⟩ - / tip 3) / tip 5;
 }
 
@@ -47,7 +47,7 @@ p3 = record {
 unfoldable pub p4 : Case
 p4 = record {
   slots = 4;
-  lines = adds (2 ∷ 1 ∷ 3 ∷ []) ++ (remove_by_key_lem 2 ⇒ kind 0 slot 1 stamp 1 key 2 text 0 ∷ []);
+  lines = adds (2 ∷ 1 ∷ 3 ∷ []) ++ (remove_by_key 2 ⇒ kind 0 slot 1 stamp 1 key 2 text 0 ∷ []);
   shape = 1 ⟨ 1 ⟩ - / tip 3;
 }
 
@@ -55,7 +55,7 @@ p4 = record {
 unfoldable pub p5 : Case
 p5 = record {
   slots = 4;
-  lines = adds (2 ∷ 1 ∷ 3 ∷ 4 ∷ []) ++ (remove_by_key_lem 2 ⇒ kind 0 slot 1 stamp 1 key 2 text 0 ∷ []);
+  lines = adds (2 ∷ 1 ∷ 3 ∷ 4 ∷ []) ++ (remove_by_key 2 ⇒ kind 0 slot 1 stamp 1 key 2 text 0 ∷ []);
   shape = 3 ⟨ 0 ⟩ tip 1 / tip 4;
 }
 
@@ -63,7 +63,7 @@ p5 = record {
 unfoldable pub p6 : Case
 p6 = record {
   slots = 5;
-  lines = adds (4 ∷ 2 ∷ 5 ∷ 1 ∷ 3 ∷ []) ++ (remove_by_key_lem 4 ⇒ kind 0 slot 1 stamp 1 key 4 text 0 ∷ []);
+  lines = adds (4 ∷ 2 ∷ 5 ∷ 1 ∷ 3 ∷ []) ++ (remove_by_key 4 ⇒ kind 0 slot 1 stamp 1 key 4 text 0 ∷ []);
   shape = 3 ⟨ 2 ⟩ (2 ⟨ 2 ⟩ tip 1 / -) / tip 5;
 }
 
@@ -73,7 +73,7 @@ p7 = record {
   slots = 4;
   lines =
       adds (10 ∷ 20 ∷ 30 ∷ [])
-      ++ (remove_by_key_lem 20 ⇒ kind 0 slot 2 stamp 2 key 20 text 1
+      ++ (remove_by_key 20 ⇒ kind 0 slot 2 stamp 2 key 20 text 1
       ∷ add 25 ⇒ kind 0 slot 2 stamp 4 key 25 text 3
       ∷ remove_handle 2 2 ⇒ refused 15 kind 0
       ∷ next 2 2 ⇒ refused 15 kind 0
@@ -93,7 +93,7 @@ p8 = record {
   lines =
       adds (1 ∷ 2 ∷ [])
       ++ (mark ⇒ kind 0 nothing
-      ∷ remove_by_key_lem 1 ⇒ kind 0 slot 1 stamp 1 key 1 text 0
+      ∷ remove_by_key 1 ⇒ kind 0 slot 1 stamp 1 key 1 text 0
       ∷ rollback ⇒ kind 0 nothing
       ∷ get 1 ⇒ kind 0 slot 1 stamp 1 key 1 text 0
       ∷ get 2 ⇒ kind 0 slot 2 stamp 2 key 2 text 1
@@ -109,7 +109,7 @@ p9 = record {
   lines =
       adds (10 ∷ [])
       ++ (mark ⇒ kind 0 nothing
-      ∷ remove_by_key_lem 10 ⇒ kind 0 slot 1 stamp 1 key 10 text 0
+      ∷ remove_by_key 10 ⇒ kind 0 slot 1 stamp 1 key 10 text 0
       ∷ add 30 ⇒ kind 0 slot 1 stamp 2 key 30 text 1
       ∷ rollback ⇒ kind 0 nothing
       ∷ add 40 ⇒ kind 0 slot 2 stamp 3 key 40 text 1
@@ -191,7 +191,7 @@ one_by_one = record {
       adds (11 ∷ 4 ∷ [])
       ++ (mark ⇒ kind 0 nothing
       ∷ add 20 ⇒ kind 0 slot 3 stamp 3 key 20 text 2
-      ∷ remove_by_key_lem 20 ⇒ kind 0 slot 3 stamp 3 key 20 text 2
+      ∷ remove_by_key 20 ⇒ kind 0 slot 3 stamp 3 key 20 text 2
       ∷ add 9 ⇒ kind 0 slot 3 stamp 4 key 9 text 3
       ∷ rollback ⇒ kind 0 nothing
       ∷ []);

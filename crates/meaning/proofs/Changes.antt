@@ -1,6 +1,6 @@
 -- A pool stays well-formed when a record is put into a slot or taken out, when a record is added, and when it is emptied; a fresh pool is so.
 -- Assumes nothing.
-pub use Rattle.meaning.proofs.Members.{slot_in as live-slot}
+pub use Rattle.meaning.proofs.Members.{slot_in as live_slot}
 use mathlib.Core.List.{List, [], ◌∷◌, ◌++◌, map}
 use mathlib.Core.Option.{Option, none, some}
 use mathlib.Core.Path.{◌≡◌, refl, sym, ap, subst}

@@ -64,8 +64,8 @@ module _ (p : Pool) (good : WellFormed p) (t : ℕ) (low : 1 ≤ t) (high : t �
   pub beyond_other : (d : Dir) (x : ℕ) → Lives p t x → (beyond d p t x ≡ 0 → ⊥) → x ≡ beyond d p t x → ⊥
   unfolding beyond
   beyond_other d x h n i =
-      let after-it = following_after x (list (flip d) (tree_at p t)) (tree_sorted (flip d)) (tree_counts (flip d) x h) n in
-      go (flip d) (subst (λ (y : ℕ). From (flip d) (LessKey (key_at p)) x y) (sym i) after-it)
+      let after_it = following_after x (list (flip d) (tree_at p t)) (tree_sorted (flip d)) (tree_counts (flip d) x h) n in
+      go (flip d) (subst (λ (y : ℕ). From (flip d) (LessKey (key_at p)) x y) (sym i) after_it)
     where
       go : (e : Dir) → From e (LessKey (key_at p)) x x → ⊥
       go left h = omega arith

@@ -9,7 +9,7 @@ use lib.ListN.{take, set, replicate}
 use Rattle.meaning.specs.Layout.{every}
 use Rattle.meaning.specs.Pool.{bytes}
 use Rattle.meaning.specs.Sound.{sound}
-use Rattle.meaning.specs.Doors.{fresh as emptyPool}
+use Rattle.meaning.specs.Doors.{fresh as empty_pool}
 use Rattle.meaning.specs.Listing.{listing}
 use Rattle.meaning.proofs.Lines.{◌⇒◌, add, ◌named◌long◌, kind◌slot◌stamp◌key◌text◌long◌, batch_of, fresh, outcome}
 use Rattle.meaning.proofs.Cases
@@ -70,7 +70,7 @@ unsound =
     -- cut short, one byte too long, less than a header, nothing
     take 183 pool1 ∷ (pool1 ++ (0 ∷ [])) ∷ take 31 pool1 ∷ []
     -- one limit of the header passed, and all else in order: N 0 and 1,025, T 0 and 9, X 8,193, next stamp 0 without records
-    ∷ bytes (emptyPool 0 1 0) ∷ bytes (emptyPool 1_025 1 0) ∷ bytes (emptyPool 1 0 0) ∷ bytes (emptyPool 1 9 0) ∷ bytes (emptyPool 1 1 8_193)
+    ∷ bytes (empty_pool 0 1 0) ∷ bytes (empty_pool 1_025 1 0) ∷ bytes (empty_pool 1 0 0) ∷ bytes (empty_pool 1 9 0) ∷ bytes (empty_pool 1 1 8_193)
     ∷ fresh 1 1 0 with ((28, 0) ∷ [])
     -- one limit of a record passed: balance 3 in place of 2; a name of 256 bytes, all of them in use
     ∷ (ran p8).pool with ((86, 3) ∷ [])

@@ -143,9 +143,9 @@ module _ (s : State) (c : Command) where
   no_stamp_lem = one_row 22 (omega arith) (omega arith) refl
 
   -- NO_MARK, 23: ops 27 and 28: no mark is open.
-  pub no_mark_lem : (refusal s c ≡ 23) exactly_if RefusedBy (within 27 28) unmarked (row_of 23) s c
+  pub no_mark : (refusal s c ≡ 23) exactly_if RefusedBy (within 27 28) unmarked (row_of 23) s c
   unfolding table_opened
-  no_mark_lem = one_row 23 (omega arith) (omega arith) refl
+  no_mark = one_row 23 (omega arith) (omega arith) refl
 
   -- MARK_OPEN, 24: ops 26 and 29: a mark is open.
   pub mark_open : (refusal s c ≡ 24) exactly_if RefusedBy (among ((26, 26) ∷ (29, 29) ∷ [])) marked (row_of 24) s c

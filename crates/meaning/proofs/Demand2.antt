@@ -47,7 +47,7 @@ keys_of p (x ∷ w) (rise a s) = rise (above w a) (keys_of p w s)
 
 -- A sound pool is the bytes of the state that it is read as, and that state is well-formed: its lists are what the pool means.
 pub sound_means : (pool : List ℕ) → Bytes pool → sound pool ≡ true → WellFormed (read pool) × (bytes (read pool) ≡ pool)
-sound_means pool is-bytes is_sound = sound_pool pool is-bytes is_sound
+sound_means pool is_bytes is_sound = sound_pool pool is_bytes is_sound
 
 -- Each tree's list is sorted strictly by key: each key is below every later one, so no two are equal.
 pub keys_rise : (p : Pool) → WellFormed p → (t : ℕ) → Sorted (λ x y. x < y) (map (λ (e : Entry). e.key) (entries_of p t))
@@ -56,23 +56,23 @@ keys_rise p good t = keys_of p (list left (tree_at p t)) (any_sorted p good t)
 
 -- ---- the counts
 
-module _ (pool : List ℕ) (is-bytes : Bytes pool) (is_sound : sound pool ≡ true) where
+module _ (pool : List ℕ) (is_bytes : Bytes pool) (is_sound : sound pool ≡ true) where
   -- The live records that the header of a sound pool counts are as many as the entries of all its trees' lists.
   pub live_is : n_live pool ≡ total (read pool) 1 (n_trees pool)
   live_is =
-      let q = sound_pool pool is-bytes is_sound in
+      let q = sound_pool pool is_bytes is_sound in
       let h = subst (HeaderSays (read pool)) q.1 (written_header (read pool) q.0) in
       h.live_are ∙ live_total (read pool) q.0 ∙ ap (total (read pool) 1) (sym h.trees_are)
 
   entries_are : entries pool ≡ map entry_bytes (read pool).trees
-  entries_are = let q = sound_pool pool is-bytes is_sound in subst (λ (c : List ℕ). entries c ≡ map entry_bytes (read pool).trees) q.1 (written_entries (read pool) q.0)
+  entries_are = let q = sound_pool pool is_bytes is_sound in subst (λ (c : List ℕ). entries c ≡ map entry_bytes (read pool).trees) q.1 (written_entries (read pool) q.0)
 
   -- The count of a tree's entry is the length of its list.
   pub count_of_tree : (t : ℕ) → 1 ≤ t → t ≤ n_trees pool → count_of (at [] (entries pool) t) ≡ length (entries_of (read pool) t)
   unfolding entries_of
   count_of_tree t low high =
       let p = read pool in
-      let q = sound_pool pool is-bytes is_sound in
+      let q = sound_pool pool is_bytes is_sound in
       let trees = (subst (HeaderSays p) q.1 (written_header p q.0)).trees_are in
       ap (λ (es : List (List ℕ)). count_of (at [] es t)) entries_are
       ∙ ap count_of (entry_at_lem p t low (omega arith))
@@ -83,7 +83,7 @@ module _ (pool : List ℕ) (is-bytes : Bytes pool) (is_sound : sound pool ≡ tr
   pub links_of_record : (slot : ℕ) (r : Rec) → rec_at (read pool) slot ≡ some r → RowSays (at [] (records pool) slot) r (links_at (read pool) r.tree slot)
   links_of_record slot r e =
       let p = read pool in
-      let q = sound_pool pool is-bytes is_sound in
+      let q = sound_pool pool is_bytes is_sound in
       let all : records pool ≡ record_rows p 1 p.slots = subst (λ (c : List ℕ). records c ≡ record_rows p 1 p.slots) q.1 (written_records p q.0) in
       subst (λ (rs : List (List ℕ)). RowSays (at [] rs slot) r (links_at p r.tree slot)) (sym all) (live_row p slot r q.0 e)
 
@@ -91,7 +91,7 @@ module _ (pool : List ℕ) (is-bytes : Bytes pool) (is_sound : sound pool ≡ tr
   pub root_of_tree : (t : ℕ) → 1 ≤ t → t ≤ n_trees pool → root_of (at [] (entries pool) t) ≡ top (tree_at (read pool) t)
   root_of_tree t low high =
       let p = read pool in
-      let q = sound_pool pool is-bytes is_sound in
+      let q = sound_pool pool is_bytes is_sound in
       let trees = (subst (HeaderSays p) q.1 (written_header p q.0)).trees_are in
       ap (λ (es : List (List ℕ)). root_of (at [] es t)) entries_are
       ∙ ap root_of (entry_at_lem p t low (omega arith)) ∙ root_is p t q.0 low (omega arith)
@@ -163,4 +163,4 @@ balanced_after origin s c parsed g t low high = ((perform_good origin s c parsed
 
 -- Every tree of a sound pool is balanced, with the balances that its records store; by `batch_means` that is so of the pool that a batch leaves.
 pub balanced_pool : (pool : List ℕ) → Bytes pool → sound pool ≡ true → (t : ℕ) → 1 ≤ t → t ≤ length (read pool).trees → Balanced (tree_at (read pool) t)
-balanced_pool pool is-bytes is_sound t low high = ((sound_pool pool is-bytes is_sound).0.trees t low high).balanced
+balanced_pool pool is_bytes is_sound t low high = ((sound_pool pool is_bytes is_sound).0.trees t low high).balanced

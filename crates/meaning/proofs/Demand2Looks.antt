@@ -13,7 +13,7 @@ use Rattle.avl.proofs.Walks.{nearest}
 use Rattle.meaning.specs.Layout.{within}
 use Rattle.meaning.specs.Pool.{Pool, rec_at, tree_at}
 use Rattle.meaning.specs.Change.{by_key_in}
-use Rattle.meaning.specs.Cursor.{Command, Cursor, occupied, vacant, State, kind, standing, with_key, nearest as nearestOf, or_nearest, entry_of, next_of_cursor, entered_at, entered}
+use Rattle.meaning.specs.Cursor.{Command, Cursor, occupied, vacant, State, kind, standing, with_key, nearest as nearest_of, or_nearest, entry_of, next_of_cursor, entered_at, entered}
 use Rattle.meaning.specs.Command.{Act, Done, show, op◌means◌does◌then◌, ops, op_in, op_of, meant, bad_tree, present, not_between, none_there, refusal, answer, Performed, carried_out, perform}
 use Rattle.meaning.specs.WellFormed.{WellFormed}
 use Rattle.meaning.specs.Meant.{Entry, entries_of, lookup, facing, first_past, is_none, slot_of, on_side, shown, of_cursor, beside_cursor, seen}
@@ -85,7 +85,7 @@ EndsAt s c u v = entry (by_key_in s.pool c.key) (tree_at s.pool c.tree) ≡ reco
 
 enters_row : (origin : Option Pool) (s : State) (c : Command) → GoodState origin s → bad_tree s c ≡ false
     → Entered (entries_of s.pool c.tree) c.tree c.key (carried_out (op_in ops 9) s c)
-unfolding ops op_in op◌means◌does◌then◌ carried_out show nearestOf or_nearest entered entered_at entry_of kind get
+unfolding ops op_in op◌means◌does◌then◌ carried_out show nearest_of or_nearest entered entered_at entry_of kind get
 enters_row origin s c g h = let f = entry (by_key_in s.pool c.key) (tree_at s.pool c.tree) in go f.part f.way refl
   where
     replied : {u : Tree} {v : Way} → EndsAt s c u v

@@ -31,7 +31,7 @@ use Rattle.meaning.proofs.Seen.{handle_lives}
 use Rattle.meaning.proofs.Sights.{sees_slot, unlisted}
 use Rattle.meaning.proofs.Tables.{never, passed}
 
-module _ (pool : List ℕ) (is-bytes : Bytes pool) (ok : sound pool ≡ true) (t slot stamp : ℕ) where
+module _ (pool : List ℕ) (is_bytes : Bytes pool) (ok : sound pool ≡ true) (t slot stamp : ℕ) where
   abbrev p : Pool
   p = read pool
 
@@ -42,7 +42,7 @@ module _ (pool : List ℕ) (is-bytes : Bytes pool) (ok : sound pool ≡ true) (t
   c = removal t slot stamp
 
   good : WellFormed p
-  good = (sound_pool pool is-bytes ok).0
+  good = (sound_pool pool is_bytes ok).0
 
   -- a name within the text in use reads the same from the text and from the buffer's end
   same_part : (i n : ℕ) → i + n ≤ length p.text → part (text_of pool) i n ≡ part p.text i n

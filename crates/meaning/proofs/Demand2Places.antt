@@ -15,7 +15,7 @@ use Rattle.avl.specs.Way.{Way, root, step, plug, before, after}
 use Rattle.avl.specs.Edit.{insert, insert_here, remove}
 use Rattle.avl.specs.Search.{Spot, seek, entry}
 use Rattle.avl.specs.Order.{All, nil, more, first, by_key}
-use Rattle.avl.proofs.Answers.{Outcome, vacant, occupied, entry-outcome}
+use Rattle.avl.proofs.Answers.{Outcome, vacant, occupied, entry_outcome}
 use Rattle.avl.proofs.Keys.{same_key, keys, key_exact}
 use Rattle.avl.proofs.Sides.{node_branch}
 use Rattle.avl.proofs.Sorting.{all_back, all_head, all_map}
@@ -77,7 +77,7 @@ pub new_place : (p : Pool) → WellFormed p → (t k : ℕ) → NewKey p t k
 unfolding by_key_in keys
 new_place p good t k new =
     go (entry (by_key (key_at p) k) (tree_at p t)) refl
-    (entry-outcome (keys (key_at p)) (by_key (key_at p) k) (key_exact (key_at p) k) (tree_at p t) (any_sorted p good t))
+    (entry_outcome (keys (key_at p)) (by_key (key_at p) k) (key_exact (key_at p) k) (tree_at p t) (any_sorted p good t))
   where
     go : (f : Spot) → entry (by_key (key_at p) k) (tree_at p t) ≡ f → Outcome (by_key (key_at p) k) (list left (tree_at p t)) f
         → (q : Way) × (entry (by_key (key_at p) k) (tree_at p t) ≡ record { part = leaf; way = q })

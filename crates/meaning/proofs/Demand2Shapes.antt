@@ -92,12 +92,12 @@ beside_shape origin s c parsed g d h done a b z q i =
     let slots : All (λ y. y ≡ 0 → ⊥) (pre ++ (x ∷ rest)) = all_map (λ y l n. let m = l.low in omega arith) alive in
     let here = all_head (all_back pre (x ∷ rest) slots) in
     let order = order_ok d s c (beside_order s c d h done) in
-    let sorted-there : Sorted (From e (LessKey (key_at p))) (pre ++ (x ∷ rest)) = subst (Sorted (From e (LessKey (key_at p)))) shape (list_sorted e u sorted) in
+    let sorted_there : Sorted (From e (LessKey (key_at p))) (pre ++ (x ∷ rest)) = subst (Sorted (From e (LessKey (key_at p)))) shape (list_sorted e u sorted) in
     let beside : next_of d p s.cursor ≡ first rest =
     standing_next d p s.cursor here
     ∙ ap (λ (v : ℕ). following x (list e (tree_at p v))) (sym (beside_tree s c d h done))
     ∙ ap (following x) (ap (list e) i ∙ shape)
-    ∙ following_at x pre rest (before_others (key_at p) e pre x rest sorted-there) in
+    ∙ following_at x pre rest (before_others (key_at p) e pre x rest sorted_there) in
     (adds origin s c parsed g (beside_ops_lem d c.op h).0 done).shape
     ∙ ap (add (by_key_in p k) (free_slot p)) i
     ∙ between (keys (key_at p)) (by_key_in p k) (key_exact (key_at p) k).follows d a x b z q (free_slot p) sorted (past_says p d x k order.0 here)

@@ -24,19 +24,19 @@ use Rattle.meaning.proofs.Reach.{refused_from, refused_after}
 -- ---- over states: from any good state, whatever came before it
 
 module _ (origin : Option Pool) (s : State) (good : GoodState origin s) (mark : Command) (is_mark : mark.op ≡ 26) (done : refusal s mark ≡ 0) (parsed : Parsed mark)
-    (between : List Command) (all-parsed : AllParsed between) (inside : Inside between) where
+    (between : List Command) (all_parsed : AllParsed between) (inside : Inside between) where
   -- A rollback at the batch's end gives back the contents of the pool at the mark.
   pub end_gives_back : SameContents s.pool (ended (run (perform s mark).state between).state)
   end_gives_back =
       restored_same (ended_restored s.pool (run (perform s mark).state between).state
-      (open_good origin s good mark is_mark done parsed between all-parsed inside))
+      (open_good origin s good mark is_mark done parsed between all_parsed inside))
 
   -- A rollback by command is done, leaves no mark open, and gives back the contents of the pool at the mark.
   pub command_gives_back : (back : Command) → back.op ≡ 27 → let u = (run (perform s mark).state between).state in
       (refusal u back ≡ 0) × ((perform u back).state.mark ≡ none) × SameContents s.pool (perform u back).state.pool
   command_gives_back back e =
       let u = (run (perform s mark).state between).state in
-      let z = rollback_done s.pool u back (open_good origin s good mark is_mark done parsed between all-parsed inside) e in
+      let z = rollback_done s.pool u back (open_good origin s good mark is_mark done parsed between all_parsed inside) e in
       let l = rolls_back u back z e in
       (z, l.mark, subst (SameContents s.pool) (sym l.pool) end_gives_back)
 

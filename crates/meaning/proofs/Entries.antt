@@ -13,7 +13,7 @@ use Rattle.fields.proofs.Parts.{length_part}
 use Rattle.avl.specs.Tree.{Dir, left, right, flip, Tree, leaf, list}
 use Rattle.avl.specs.Search.{three, get}
 use Rattle.avl.specs.Order.{All, nil, more, Sorted, rise, sought, first, LessKey, by_key}
-use Rattle.avl.proofs.Answers.{get-sought}
+use Rattle.avl.proofs.Answers.{get_sought}
 use Rattle.avl.proofs.Keys.{Told, smaller, equal, greater, told, keys, key_exact}
 use Rattle.avl.proofs.Lists.{list_flip}
 use Rattle.avl.proofs.Sorting.{all_map}
@@ -185,4 +185,4 @@ module _ (p : Pool) (k : ℕ) where
   unfolding entries_of by_key_in keys
   lookup_get good t =
       lookup_sought t (list left (tree_at p t)) (any_live p good t) (any_sorted p good t)
-      ∙ ap (live_entry p) (sym (get-sought (keys (key_at p)) (by_key (key_at p) k) (key_exact (key_at p) k) (tree_at p t) (any_sorted p good t)))
+      ∙ ap (live_entry p) (sym (get_sought (keys (key_at p)) (by_key (key_at p) k) (key_exact (key_at p) k) (tree_at p t) (any_sorted p good t)))

@@ -13,7 +13,7 @@ use borrow.Author.Tests.{eq-eqb, ne_eqb}
 use Rattle.avl.specs.Tree.{left, Tree, leaf, list, Balanced}
 use Rattle.avl.specs.Search.{add, remove_by_key}
 use Rattle.avl.specs.Order.{All, Sorted, LessKey, into, out}
-use Rattle.avl.proofs.Answers.{add-balanced, remove-by-key-balanced}
+use Rattle.avl.proofs.Answers.{add_balanced, remove_by_key_balanced}
 use Rattle.avl.proofs.Sorting.{all_map, sorted_once, sorted_without}
 use Rattle.avl.proofs.Keys.{keys}
 use Rattle.meaning.specs.Layout.{bit, count, put}
@@ -217,7 +217,7 @@ module _ (x : ℕ) (r : Rec) (p : Pool) (g : Formed p) (f : Room p x r) where
       tree =
           tree_enters put_edited put_home (rw (f.free, lives_in)) (eq-eqb r.tree r.tree refl) put_gap.low put_gap.high put_gap.split
           put_split r.key (live_key (put_rec x r p) x r put_edited.slot) put_gap.around
-          (add-balanced (by_key_in p r.key) x (tree_at p r.tree) put_home.balanced)
+          (add_balanced (by_key_in p r.key) x (tree_at p r.tree) put_home.balanced)
 
 -- ---- a record taken out
 
@@ -260,4 +260,4 @@ module _ (x : ℕ) (r : Rec) (p : Pool) (g : Formed p) (live : rec_at p x ≡ so
   formed_drop =
       edited_formed drop_edited g (λ s e. absurd (not_both none e refl)) (rw live (only_own r)) (only_none r.tree)
       (tree_leaves drop_edited drop_home (unfold lives_in in refl) drop_stands.low drop_stands.high drop_stands.split drop_split
-      (remove-by-key-balanced (by_key_in p r.key) (tree_at p r.tree) drop_home.balanced))
+      (remove_by_key_balanced (by_key_in p r.key) (tree_at p r.tree) drop_home.balanced))

@@ -20,7 +20,7 @@ use Rattle.meaning.proofs.Undoing.{alike_rec}
 use Rattle.meaning.proofs.Formed.{not_both}
 use Rattle.meaning.proofs.Batches.{AllParsed, none_left, and_then}
 use Rattle.meaning.proofs.Histories.{With, run_keeps, inside_keeps}
-use Rattle.meaning.proofs.Bindings.{dropped_next, dropped_free, next_keeps, Only, AtMark, no_mark_lem, at_mark, Bound, BoundNow, bound_now, bound_keeps, SameSince, since, same_keeps, shut_bound}
+use Rattle.meaning.proofs.Bindings.{dropped_next, dropped_free, next_keeps, Only, AtMark, no_mark, at_mark, Bound, BoundNow, bound_now, bound_keeps, SameSince, since, same_keeps, shut_bound}
 use Rattle.meaning.proofs.Doing.{removes}
 use Rattle.meaning.proofs.Marks.{ended_restored}
 use Rattle.meaning.proofs.Points.{parsed_parts, point_keeps, later_keeps, point_stored, point_good, point_parsed, point_on, state_on}
@@ -40,7 +40,7 @@ holds_only p x r e = record {
 -- also at the open mark, if it was there
 marked_only : {w : Option Pool} {m : Option Mark} {p : Pool} (x : ℕ) (r : Rec) → rec_at p x ≡ some r → Journal w m p → SameSince w p
     → AtMark (Only x r.stamp (Is r (part p.text r.start r.len))) w
-marked_only x r e shut h = no_mark_lem
+marked_only x r e shut h = no_mark
 marked_only {p = p} x r e (begun {p₀ = p₀} good held) (since old same) = at_mark (record {
   only = λ q i s.
       let is : q ≡ r = same x q r i e s in
@@ -55,7 +55,7 @@ pub given_bound : {b w a : List ℕ} {before rest : List Command} → Point b w 
     → rec_at (state_after b before).pool x ≡ some r
     → With (Bound x r.stamp (Is r (part (state_after b before).pool.text r.start r.len))) (state_after b before)
 given_bound {b} {before = before} p x r e =
-    let h = point_keeps same_keeps (point_stored p SameSince no_mark_lem) p in
+    let h = point_keeps same_keeps (point_stored p SameSince no_mark) p in
     record {
       at_mark = h.at_mark;
       good = h.good;
@@ -107,7 +107,7 @@ holds_same h x r live = record { rec = rw h.slots live; name = rw h.text }
 
 -- At the open mark the pool held what a rollback would give back.
 pub ended_marked : {x g : ℕ} (w : Option Pool) (s : State) → GoodState w s → is_stale g (rec_at (ended s) x) ≡ true → AtMark (Only x g Nothing) w
-ended_marked none s good e = no_mark_lem
+ended_marked none s good e = no_mark
 ended_marked {x} {g} (some p₀) s good e = at_mark (stale_only (ap (is_stale g) (sym (alike_rec (ended_restored p₀ s good).alike x)) ∙ e))
 
 -- A slot that is free has no handle.
@@ -148,7 +148,7 @@ after_command {b} {before = before} {c = c} {rest = rest} p x g out closed gone 
     let next = (run_keeps (next_keeps (suc g)) (state_after b before) (c ∷ []) (first_only (point_parsed p))
     (record { at_mark = h.0; good = h.1; has = record { next = out } })).has.next in
     refused_from q (shut_bound (point_good q).0 (state_after b (before ++ (c ∷ []))) (point_good q).1 (ap (λ (s : State). s.mark) t ∙ closed)
-    (subst (λ (s : State). Bound x g Nothing none s.pool) (sym t) (record { handed_out = next; now = gone; marked = no_mark_lem })))
+    (subst (λ (s : State). Bound x g Nothing none s.pool) (sym t) (record { handed_out = next; now = gone; marked = no_mark })))
   where
     first_only : {k : Command} {ks : List Command} → AllParsed (k ∷ ks) → AllParsed (k ∷ [])
     first_only (and_then i is) = and_then i none_left

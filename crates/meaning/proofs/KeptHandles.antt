@@ -18,7 +18,7 @@ use Rattle.meaning.specs.WellFormed.{WellFormed}
 use Rattle.meaning.specs.Meant.{removing}
 use Rattle.meaning.specs.Calls.{Calls, Point, state_after, Inside, Marked, shown_slot, RefusedOn, RefusedFrom, Holds, ReachesOn, ReachesFrom, GivenFor}
 use Rattle.meaning.proofs.Pools.{sound_pool}
-use Rattle.meaning.proofs.Bindings.{dropped_free, emptied_rec, next_keeps, Only, no_mark_lem, at_mark}
+use Rattle.meaning.proofs.Bindings.{dropped_free, emptied_rec, next_keeps, Only, no_mark, at_mark}
 use Rattle.meaning.proofs.Doing.{removes, commits, resets}
 use Rattle.meaning.proofs.Points.{calls_keep, batch_stored, point_good, point_on, state_on}
 use Rattle.meaning.proofs.StaleHandles.{Nothing, stale_only, live_accepted, live_named}
@@ -40,11 +40,11 @@ reaches_its_record p slot r e = reaches_from p (given_bound p slot r e)
 -- The same between door calls: a sound pool holds the record r in a slot.
 pub reaches_its_record_later : (pool later : List ℕ) → Bytes pool → sound pool ≡ true → (slot : ℕ) (r : Rec) → rec_at (read pool) slot ≡ some r → Calls pool later
     → ReachesOn later slot r (part (read pool).text r.start r.len)
-reaches_its_record_later pool later is-bytes h slot r e l =
+reaches_its_record_later pool later is_bytes h slot r e l =
     reaches_after (record {
-      are_bytes = is-bytes;
+      are_bytes = is_bytes;
       is_sound = h;
-      has = record { handed_out = ((sound_pool pool is-bytes h).0.recs slot r e).stamp_high; now = holds_only (read pool) slot r e; marked = no_mark_lem };
+      has = record { handed_out = ((sound_pool pool is_bytes h).0.recs slot r e).stamp_high; now = holds_only (read pool) slot r e; marked = no_mark };
     }) l
 
 -- Every handle that an answer gives, of a command that is done, is one of a record that its slot holds before the command or after it; from then on
@@ -62,20 +62,20 @@ given_reaches {pool} {before = before} {c = c} {rest = rest} p z n =
 -- While the record lives its handle is accepted, and gives its name.
 pub live_handle : (pool : List ℕ) → Bytes pool → sound pool ≡ true → (slot : ℕ) (r : Rec) → rec_at (read pool) slot ≡ some r
     → name pool r.tree slot r.stamp ≡ part (read pool).text r.start r.len
-live_handle pool is-bytes h slot r e = live_named pool slot r is-bytes h e
+live_handle pool is_bytes h slot r e = live_named pool slot r is_bytes h e
 
 -- ---- gone for ever
 
 -- A stamp that was handed out stays so: over any door calls the next stamp never falls.
 pub next_never_falls : (pool later : List ℕ) → Bytes pool → sound pool ≡ true → Calls pool later → (read pool).next ≤ (read later).next
-next_never_falls pool later is-bytes h l =
-    (calls_keep (next_keeps (read pool).next) (record { are_bytes = is-bytes; is_sound = h; has = record { next = omega arith } }) l).has.next
+next_never_falls pool later is_bytes h l =
+    (calls_keep (next_keeps (read pool).next) (record { are_bytes = is_bytes; is_sound = h; has = record { next = omega arith } }) l).has.next
 
 -- In a sound pool no live record has the handle, whose stamp was handed out: over any door calls it is refused for ever.
 pub gone_later : (pool later : List ℕ) → Bytes pool → sound pool ≡ true → (slot stamp : ℕ) → stamp < (read pool).next → is_stale stamp (rec_at (read pool) slot) ≡ true → Calls pool later
     → RefusedOn later slot stamp
-gone_later pool later is-bytes h slot stamp out e l =
-    refused_after (record { are_bytes = is-bytes; is_sound = h; has = record { handed_out = out; now = stale_only e; marked = no_mark_lem } }) l
+gone_later pool later is_bytes h slot stamp out e l =
+    refused_after (record { are_bytes = is_bytes; is_sound = h; has = record { handed_out = out; now = stale_only e; marked = no_mark } }) l
 
 -- At a point of a batch neither the pool nor what a rollback would give back has the handle, whose stamp was handed out: no open mark can bring its
 -- record back. From then on it is refused for ever.

@@ -7,7 +7,7 @@ use lib.Dec.{eqb}
 use lib.ListN.{length, take, set, replicate}
 use Rattle.meaning.specs.Layout.{all, every}
 use Rattle.meaning.specs.Doors.{create, check, batch, Outcome, name}
-use Rattle.meaning.proofs.Lines.{Line, ◌⇒◌, op, ◌in_tree◌, ◌named◌long◌, add, remove_by_key_lem, mark, refused◌kind◌, kind◌nothing, kind◌slot◌stamp◌key◌text◌, replies, batch_of, letters, fresh, outcome, same}
+use Rattle.meaning.proofs.Lines.{Line, ◌⇒◌, op, ◌in_tree◌, ◌named◌long◌, add, remove_by_key, mark, refused◌kind◌, kind◌nothing, kind◌slot◌stamp◌key◌text◌, replies, batch_of, letters, fresh, outcome, same}
 use Rattle.meaning.proofs.Cases
 use Rattle.meaning.proofs.Cases.{pool1}
 
@@ -51,7 +51,7 @@ half : List Line
 half =
     mark ⇒ kind 0 nothing
     ∷ add 9 ⇒ kind 0 slot 4 stamp 4 key 9 text 3
-    ∷ remove_by_key_lem 2 ⇒ kind 0 slot 2 stamp 2 key 2 text 1
+    ∷ remove_by_key 2 ⇒ kind 0 slot 2 stamp 2 key 2 text 1
     ∷ []
 
 calls : List Call

@@ -10,8 +10,8 @@ use Rattle.fields.specs.Part.{part, zeros}
 use Rattle.avl.specs.Tree.{branch, list, height, tilt}
 use Rattle.avl.specs.Way.{plug}
 use Rattle.avl.specs.Rotate.{double, turn, rotate, grown, shrunk, climb}
-use Rattle.avl.specs.Edit.{insert, end, bottom_child, replace, remove as removeAt}
-use Rattle.avl.specs.Search.{seek, entry as entry_at, get as getBy, add as addBy, remove_by_key}
+use Rattle.avl.specs.Edit.{insert, end, bottom_child, replace, remove as remove_at}
+use Rattle.avl.specs.Search.{seek, entry as entry_at, get as get_by, add as add_by, remove_by_key as remove_by}
 use Rattle.meaning.specs.Layout
 use Rattle.meaning.specs.Layout.{pack, concat, span}
 use Rattle.meaning.specs.Pool
@@ -68,8 +68,8 @@ add k = adding 1 k
 abbrev pub get : ℕ → Ask
 get k = keyed 2 k
 
-abbrev pub remove_by_key_lem : ℕ → Ask
-remove_by_key_lem k = keyed 3 k
+abbrev pub remove_by_key : ℕ → Ask
+remove_by_key k = keyed 3 k
 
 abbrev pub remove_handle : ℕ → ℕ → Ask
 remove_handle x g = handled 4 x g
@@ -229,5 +229,5 @@ same (x ∷ xs) (y ∷ ys) = eqb x y && same xs ys
 
 -- to unfold this is to unfold the whole meaning and these words
 unfoldable pub opened : Unit {0}
-unfolding value digits get_le part zeros branch list height tilt plug double turn rotate grown shrunk climb insert end bottom_child replace removeAt seek entry_at getBy addBy remove_by_key Layout.opened Pool.opened Sound.opened Change.opened Cursor.opened Command.opened Doors.opened Listing.opened adds_from placed asked replies batch_of letters fresh outcome same
+unfolding value digits get_le part zeros branch list height tilt plug double turn rotate grown shrunk climb insert end bottom_child replace remove_at seek entry_at get_by add_by remove_by Layout.opened Pool.opened Sound.opened Change.opened Cursor.opened Command.opened Doors.opened Listing.opened adds_from placed asked replies batch_of letters fresh outcome same
 opened = tt

@@ -15,7 +15,7 @@ use Rattle.meaning.specs.Doors.{run, begun, batch, name}
 use Rattle.meaning.specs.WellFormed.{WellFormed}
 use Rattle.meaning.specs.Calls.{Point, state_after, ByHandle}
 use Rattle.meaning.specs.Told.{code_at, AcceptedWith, with_done, with_none}
-use Rattle.meaning.proofs.Answers.{code-told}
+use Rattle.meaning.proofs.Answers.{code_told}
 use Rattle.meaning.proofs.Members.{slot_in}
 use Rattle.meaning.proofs.Points.{point_good}
 use Rattle.meaning.proofs.StaleHandles.{four_to_six, name_accepted}
@@ -69,7 +69,7 @@ pub live_in_batch : {pool request answers : List ℕ} {before : List Command} {c
     → Point pool request answers before (c ∷ rest) → (slot : ℕ) (r : Rec) → rec_at (state_after pool before).pool slot ≡ some r
     → ByHandle c slot r.stamp → c.tree ≡ r.tree → AcceptedWith c (code_at (batch pool request answers).answers (length before))
 live_in_batch {pool = pool} {before = before} {c = c} p slot r live h home =
-    subst (AcceptedWith c) (sym (code-told p)) (live_passes (state_after pool before) c slot r (point_good p).1.pool live h home)
+    subst (AcceptedWith c) (sym (code_told p)) (live_passes (state_after pool before) c slot r (point_good p).1.pool live h home)
 
 -- What name gives a name for, batch accepts: the first command of a batch on the same pool that names the handle in that tree is answered so.
 pub named_in_batch : {pool request answers : List ℕ} {c : Command} {rest : List Command} → Point pool request answers [] (c ∷ rest)

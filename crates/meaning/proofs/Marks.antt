@@ -56,19 +56,19 @@ module _ (p₀ : Pool) (s : State) (g : GoodState (some p₀) s) where
   -- While it is open, neither a mark nor a reset is done.
   not_again : (c : Command) → refusal s c ≡ 0 → among ((26, 26) ∷ (29, 29) ∷ []) c.op ≡ true → ⊥
   unfolding marked
-  not_again c z h = never (journal_open g.journal) ((passed s c z).no_mark_lem h)
+  not_again c z h = never (journal_open g.journal) ((passed s c z).no_mark h)
 
   -- A command that does not close it leaves it where it was.
   stays : (c : Command) → (c.op ≡ 27 → ⊥) → (c.op ≡ 28 → ⊥) → marked_at (some p₀) s c ≡ some p₀
   unfolding marked_at after_op
-  stays c no-rollback no-commit = go (eqb (refusal s c) 0) refl
+  stays c no_rollback no_commit = go (eqb (refusal s c) 0) refl
     where
       after : refusal s c ≡ 0 → cond (eqb c.op 26) (some s.pool) (cond (within 27 29 c.op) none (some p₀)) ≡ some p₀
       after z =
           test (eqb c.op 26) (λ t. absurd (not_again c z (again 26 (eqb-true c.op 26 t) (unfold among within in refl))))
           (λ t. test (within 27 29 c.op)
           (λ u. absurd (let l = within_is 27 29 c.op u in
-          not_again c z (again 29 (omega (arith, l.0, l.1, no-rollback, no-commit)) (unfold among within in refl)))) (λ u. rw (t, u)))
+          not_again c z (again 29 (omega (arith, l.0, l.1, no_rollback, no_commit)) (unfold among within in refl)))) (λ u. rw (t, u)))
         where
           again : (n : ℕ) → c.op ≡ n → among ((26, 26) ∷ (29, 29) ∷ []) n ≡ true → among ((26, 26) ∷ (29, 29) ∷ []) c.op ≡ true
           again n e h = rw e h

@@ -11,7 +11,7 @@ use Rattle.avl.specs.Tree.{Dir, left, right, flip, top, list}
 use Rattle.avl.specs.Way.{before, after}
 use Rattle.avl.specs.Search.{Spot, toward, get}
 use Rattle.avl.specs.Order.{All, first}
-use Rattle.avl.proofs.Answers.{Outcome, vacant, occupied, entry-outcome}
+use Rattle.avl.proofs.Answers.{Outcome, vacant, occupied, entry_outcome}
 use Rattle.avl.proofs.Keys.{side_on, key_same, keys, key_exact}
 use Rattle.avl.proofs.Sorting.{all_back, all_append, all_map, all_head, Says}
 use Rattle.meaning.specs.Pool.{Pool, tree_at, key_at}
@@ -51,7 +51,7 @@ module _ (p : Pool) (good : WellFormed p) (t k : ℕ) (low : 1 ≤ t) (high : t 
   unfolding get by_key_in keys
   unfound_new z =
       apart_new p t k (outcome_apart (by_key_in p k)
-      (entry-outcome (keys (key_at p)) (by_key_in p k) (key_exact (key_at p) k) (tree_at p t) (tree_sorted p good t low high left))
+      (entry_outcome (keys (key_at p)) (by_key_in p k) (key_exact (key_at p) k) (tree_at p t) (tree_sorted p good t low high left))
       (all_slots p good t low high left) z)
 
   -- A key past a record of the tree, and before the next record in that direction, if there is one, is new.

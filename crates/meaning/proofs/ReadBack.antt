@@ -20,9 +20,9 @@ use Rattle.meaning.proofs.Rows.{live_row, free_row, root_is}
 use Rattle.meaning.proofs.Stored.{tree_back}
 
 -- by cases on a slot, with its equation
-pub on-slot {ℓ} : {P : Type ℓ} (o : Option Rec) → (o ≡ none → P) → ((r : Rec) → o ≡ some r → P) → P
-on-slot none f g = f refl
-on-slot (some r) f g = g r refl
+pub on_slot {ℓ} : {P : Type ℓ} (o : Option Rec) → (o ≡ none → P) → ((r : Rec) → o ≡ some r → P) → P
+on_slot none f g = f refl
+on_slot (some r) f g = g r refl
 
 -- The row of a free slot has tree 0.
 pub free_tree : tree_in (replicate 32 0) ≡ 0
@@ -37,7 +37,7 @@ says_rec b r k f = rw (f.tree_is, f.key_is, f.stamp_is, f.start_is, f.len_is)
 pub row_back : (p : Pool) (x : ℕ) → WellFormed p → 1 ≤ x → x ≤ length p.slots → read_rec (at [] (record_rows p 1 p.slots) x) ≡ rec_at p x
 row_back p x v lo hi =
     let b = at [] (record_rows p 1 p.slots) x in
-    on-slot (rec_at p x)
+    on_slot (rec_at p x)
     (λ e. ap read_rec (free_row p x lo hi e) ∙ read_free (replicate 32 0) free_tree ∙ sym e)
     (λ r e.
     let f = live_row p x r v e in

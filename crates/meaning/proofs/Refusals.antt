@@ -10,7 +10,7 @@ use Rattle.avl.specs.Tree.{left, list}
 use Rattle.meaning.specs.Layout.{all, every, concat, span}
 use Rattle.meaning.specs.Pool.{read, tree_at, key_at}
 use Rattle.meaning.proofs.Lines
-use Rattle.meaning.proofs.Lines.{Line, ◌⇒◌, op, ◌in_tree◌, ◌named◌long◌, add, adds, get, remove_by_key_lem, remove_handle, next, prev, first, last, entry, first_entry, last_entry, peek_next, peek_prev, move_next, move_prev, insert_before, insert_after, insert_before_move, insert_after_move, insert_node, remove, remove_prev, remove_next, append, prepend, mark, rollback, commit, reset, refused◌kind◌, kind◌nothing, kind◌slot◌stamp◌key◌text◌long◌, kind◌slot◌stamp◌key◌text◌, replies, batch_of, letters, fresh, outcome, same}
+use Rattle.meaning.proofs.Lines.{Line, ◌⇒◌, op, ◌in_tree◌, ◌named◌long◌, add, adds, get, remove_by_key, remove_handle, next, prev, first, last, entry, first_entry, last_entry, peek_next, peek_prev, move_next, move_prev, insert_before, insert_after, insert_before_move, insert_after_move, insert_node, remove, remove_prev, remove_next, append, prepend, mark, rollback, commit, reset, refused◌kind◌, kind◌nothing, kind◌slot◌stamp◌key◌text◌long◌, kind◌slot◌stamp◌key◌text◌, replies, batch_of, letters, fresh, outcome, same}
 
 -- ---- the words of the table
 
@@ -145,7 +145,7 @@ numbers =
     ∷ on fresh 2 1 8 run ops 2 ∷ 3 ∷ 7 ∷ 8 ∷ [] on_tree 1 are (refused 19 kind 0) unchanged
     -- 19 for 2, 3: key not in the tree; 5, 6, 12 to 15, 22, 23: no record on that side
     ∷ on held 3 1 8 (10 ∷ 20 ∷ 30 ∷ [])
-    run get 15 ⇒ refused 19 kind 0 ∷ remove_by_key_lem 15 ⇒ refused 19 kind 0 ∷ next 3 3 ⇒ refused 19 kind 0 ∷ prev 1 1 ⇒ refused 19 kind 0
+    run get 15 ⇒ refused 19 kind 0 ∷ remove_by_key 15 ⇒ refused 19 kind 0 ∷ next 3 3 ⇒ refused 19 kind 0 ∷ prev 1 1 ⇒ refused 19 kind 0
     ∷ last_entry ⇒ kind 4 shows 3 ∷ peek_next ⇒ refused 19 kind 4 ∷ remove_next ⇒ refused 19 kind 4 ∷ move_next ⇒ refused 19 kind 0
     ∷ first_entry ⇒ kind 3 shows 1 ∷ peek_prev ⇒ refused 19 kind 3 ∷ remove_prev ⇒ refused 19 kind 3 ∷ move_prev ⇒ refused 19 kind 0 ∷ []
     unchanged
@@ -159,13 +159,13 @@ numbers =
     ∷ on late 255 (held 4 1 4 (10 ∷ 20 ∷ 30 ∷ [])) run adds_refused 22 unchanged
     -- 20 is of the pool: tree 2 is empty; a slot freed is taken, with a new stamp and new text
     ∷ on held 2 2 8 (10 ∷ 20 ∷ [])
-    run add 5 in_tree 2 ⇒ refused 20 kind 0 ∷ remove_by_key_lem 10 ⇒ kind 0 shows 1 ∷ add 30 ⇒ kind 0 slot 1 stamp 3 key 30 text 2
+    run add 5 in_tree 2 ⇒ refused 20 kind 0 ∷ remove_by_key 10 ⇒ kind 0 shows 1 ∷ add 30 ⇒ kind 0 slot 1 stamp 3 key 30 text 2
     ∷ add 40 ⇒ refused 20 kind 0 ∷ []
     leave (20 ∷ 30 ∷ [])
     -- 21 by the length of the name: one byte is used of 3; a removal leaves the text
     ∷ on held 2 1 3 (10 ∷ [])
     run add 20 named 0 long 3 ⇒ refused 21 kind 0 ∷ add 20 named 0 long 2 ⇒ kind 0 slot 2 stamp 2 key 20 text 1 long 2
-    ∷ remove_by_key_lem 10 ⇒ kind 0 shows 1 ∷ add 30 ⇒ refused 21 kind 0 ∷ []
+    ∷ remove_by_key 10 ⇒ kind 0 shows 1 ∷ add 30 ⇒ refused 21 kind 0 ∷ []
     leave (20 ∷ [])
     -- 21 for every well-formed add if X is 0
     ∷ on fresh 2 1 0
@@ -175,7 +175,7 @@ numbers =
     -- 22: the last stamp handed out is 4,294,967,294; removal, mark and rollback still work then
     ∷ on late 254 (held 4 1 8 (10 ∷ []))
     run add 20 ⇒ kind 0 slot 2 stamp 4_294_967_294 key 20 text 1 ∷ add 30 ⇒ refused 22 kind 0 ∷ mark ⇒ kind 0 nothing
-    ∷ remove_by_key_lem 10 ⇒ kind 0 shows 1 ∷ rollback ⇒ kind 0 nothing ∷ get 10 ⇒ kind 0 shows 1 ∷ add 30 ⇒ refused 22 kind 0 ∷ []
+    ∷ remove_by_key 10 ⇒ kind 0 shows 1 ∷ rollback ⇒ kind 0 nothing ∷ get 10 ⇒ kind 0 shows 1 ∷ add 30 ⇒ refused 22 kind 0 ∷ []
     leave (10 ∷ 20 ∷ [])
     -- 23 NO_MARK: none opened, one rolled back, one committed
     ∷ on held 2 1 8 (10 ∷ [])
@@ -196,7 +196,7 @@ cursors =
     -- ops 1 to 8 and 26 to 29 drop it when they are done
     on held 4 1 8 (10 ∷ 20 ∷ 30 ∷ [])
     run concat (dropping (add 40 ⇒ kind 0 slot 4 stamp 4 key 40 text 3) ∷ dropping (get 20 ⇒ kind 0 shows 2)
-    ∷ dropping (remove_by_key_lem 40 ⇒ kind 0 slot 4 stamp 4 key 40 text 3) ∷ dropping (remove_handle 3 3 ⇒ kind 0 shows 3)
+    ∷ dropping (remove_by_key 40 ⇒ kind 0 slot 4 stamp 4 key 40 text 3) ∷ dropping (remove_handle 3 3 ⇒ kind 0 shows 3)
     ∷ dropping (next 1 1 ⇒ kind 0 shows 2) ∷ dropping (prev 2 2 ⇒ kind 0 shows 1) ∷ dropping (first ⇒ kind 0 shows 1)
     ∷ dropping (last ⇒ kind 0 shows 2) ∷ dropping (mark ⇒ kind 0 nothing) ∷ dropping (rollback ⇒ kind 0 nothing)
     ∷ dropping (mark ⇒ kind 0 nothing) ∷ dropping (commit ⇒ kind 0 nothing) ∷ dropping (reset ⇒ kind 0 nothing) ∷ [])

@@ -17,7 +17,7 @@ use Rattle.meaning.specs.Doors.{commands, batch, removal}
 use Rattle.meaning.specs.Calls.{Calls, state_after, none_more, one_more, Marked, SameContents, AddedBetween, shown_slot, shown_stamp, RefusedOn}
 use Rattle.meaning.proofs.Facts.{every_at}
 use Rattle.meaning.proofs.Lines
-use Rattle.meaning.proofs.Lines.{Line, ◌⇒◌, add, remove_by_key_lem, mark, rollback, kind◌nothing, kind◌slot◌stamp◌key◌text◌, batch_of, letters, fresh}
+use Rattle.meaning.proofs.Lines.{Line, ◌⇒◌, add, remove_by_key, mark, rollback, kind◌nothing, kind◌slot◌stamp◌key◌text◌, batch_of, letters, fresh}
 use Rattle.meaning.proofs.Demand3.{rollback_gives_back_bytes, added_refused}
 
 unfoldable lines : List Line
@@ -25,7 +25,7 @@ lines =
     add 10 ⇒ kind 0 slot 1 stamp 1 key 10 text 0
     ∷ mark ⇒ kind 0 nothing
     ∷ add 20 ⇒ kind 0 slot 2 stamp 2 key 20 text 1
-    ∷ remove_by_key_lem 10 ⇒ kind 0 slot 1 stamp 1 key 10 text 0
+    ∷ remove_by_key 10 ⇒ kind 0 slot 1 stamp 1 key 10 text 0
     ∷ rollback ⇒ kind 0 nothing
     ∷ []
 

@@ -14,7 +14,7 @@ use Rattle.meaning.specs.States.{GoodState, Parsed}
 use Rattle.meaning.proofs.Adding.{adding_ok}
 use Rattle.meaning.proofs.Batches.{AllParsed, and_then}
 use Rattle.meaning.proofs.Histories.{ended_keeps}
-use Rattle.meaning.proofs.Bindings.{added_next, next_keeps, Only, no_mark_lem, Bound, restored_only}
+use Rattle.meaning.proofs.Bindings.{added_next, next_keeps, Only, no_mark, Bound, restored_only}
 use Rattle.meaning.proofs.Doing.{adds_shown}
 use Rattle.meaning.proofs.Marks.{mark_good, inside_good, ended_restored}
 use Rattle.meaning.proofs.Points.{parsed_parts, later_keeps, point_good, point_parsed, point_on, state_on}
@@ -23,10 +23,10 @@ use Rattle.meaning.proofs.StaleHandles.{Nothing}
 -- ---- over states
 
 module _ (w : Option Pool) (s : State) (g : GoodState w s) (m : Command) (is_mark : m.op ≡ 26) (done : refusal s m ≡ 0) (parsed : Parsed m)
-    (between : List Command) (all-parsed : AllParsed between) (inside : Inside between) where
+    (between : List Command) (all_parsed : AllParsed between) (inside : Inside between) where
   -- The state before the close leads back to the pool at the mark.
   pub open_good : GoodState (some s.pool) (run (perform s m).state between).state
-  open_good = inside_good s.pool (perform s m).state between all-parsed inside (mark_good w s m parsed g is_mark done)
+  open_good = inside_good s.pool (perform s m).state between all_parsed inside (mark_good w s m parsed g is_mark done)
 
 -- ---- over bytes
 
@@ -64,7 +64,7 @@ module _ {b w a : List ℕ} {before : List Command} {m : Command} {between rest 
       record {
         handed_out = next.next;
         now = restored_only (ended_restored (state_after b before).pool u open_at) (new_only x g low);
-        marked = no_mark_lem;
+        marked = no_mark;
       }
 
   -- The stamp of a record added in between was handed out in between.
@@ -82,17 +82,17 @@ module _ {b w a : List ℕ} {before : List Command} {m : Command} {between rest 
         split = start.split ∙ ap (λ (l : List Command). before ++ (m ∷ l))
             (ap (λ (l : List Command). l ++ rest) d.split ∙ append_assoc d.first (c ∷ d.others) rest);
       } in
-      let at-add = point_on (m ∷ d.first) here in
-      let good = point_good at-add in
+      let at_add = point_on (m ∷ d.first) here in
+      let good = point_good at_add in
       let low = later_keeps (next_keeps (state_after b before).pool.next) here
       (record { at_mark = (point_good here).0; good = (point_good here).1; has = record { next = omega arith } }) (m ∷ d.first)
       (c ∷ (d.others ++ rest)) here.split in
-      let can = adding_ok good.0 v c (first_parsed (point_parsed at-add)) good.1 d.adds d.done in
+      let can = adding_ok good.0 v c (first_parsed (point_parsed at_add)) good.1 d.adds d.done in
       let shown = adds_shown v c good.1.pool can d.adds d.done in
       let is : g ≡ v.pool.next = sym d.stamp_shown ∙ shown.stamp in
       let added : (perform v c).state.pool.next ≡ suc v.pool.next =
       ap (λ (p : Pool). p.next) shown.pool ∙ added_next v.pool (tree_of v c) c.key c.name can in
-      let after = point_on (c ∷ []) at-add in
+      let after = point_on (c ∷ []) at_add in
       let next : (state_after b ((before ++ (m ∷ d.first)) ++ (c ∷ []))).pool.next ≡ suc v.pool.next =
       ap (λ (s : State). s.pool.next) (state_on b (before ++ (m ∷ d.first)) (c ∷ [])) ∙ added in
       let high = later_keeps (next_keeps (suc g)) after

@@ -15,7 +15,7 @@ use Rattle.meaning.specs.Command.{Done, show, taken_out, take_out, add_new, sile
 use Rattle.meaning.specs.WellFormed.{WellFormed}
 use Rattle.meaning.specs.Calls.{shown_slot, shown_stamp}
 use Rattle.meaning.proofs.Members.{slot_in}
-use Rattle.meaning.proofs.ReadBack.{on-slot}
+use Rattle.meaning.proofs.ReadBack.{on_slot}
 use Rattle.meaning.proofs.Tables.{Passed, every_op, at_every_op}
 use Rattle.meaning.proofs.Doing.{performed, answer_shows}
 
@@ -28,7 +28,7 @@ data Shows (s : State) (d : Done) : Type 0 where
 module _ (s : State) (c : Command) where
   looked : (x : ℕ) → Shows s (show s c x)
   unfolding show
-  looked x = on-slot (rec_at s.pool x) (λ e. nothing e) (λ r e. held r e e)
+  looked x = on_slot (rec_at s.pool x) (λ e. nothing e) (λ r e. held r e e)
 
   taken : (x : ℕ) → Shows s (take_out s c x)
   unfolding take_out taken_out
@@ -40,7 +40,7 @@ module _ (s : State) (c : Command) where
 
   added : (x : ℕ) → Shows s (add_new s c x)
   unfolding add_new
-  added x = let d = add_new s c x in on-slot (rec_at d.pool d.shown) (λ e. nothing e) (λ r e. new r e e)
+  added x = let d = add_new s c x in on_slot (rec_at d.pool d.shown) (λ e. nothing e) (λ r e. new r e e)
 
   table : All (λ n. Passed n s c → Shows s ((op_in ops n).does s c ((op_in ops n).means s c))) every_op
   unfolding ops op_in op◌means◌does◌then◌ span open_mark roll_back commit reset silent

@@ -11,12 +11,12 @@ use Rattle.avl.specs.Tree.{Dir, left, right, flip, alike, leaf, list}
 use Rattle.avl.specs.Way.{Way, root, step, plug, above, side, before, after}
 use Rattle.avl.specs.Search.{Spot, three, get, entry}
 use Rattle.avl.specs.Order.{All, nil, more, Sorted, rise, From, sought, first, LessKey, by_key}
-use Rattle.avl.proofs.Answers.{get-sought}
+use Rattle.avl.proofs.Answers.{get_sought}
 use Rattle.avl.proofs.Beside.{list_sorted}
 use Rattle.avl.proofs.Keys.{on_side_lem, keys, key_exact}
 use Rattle.avl.proofs.Lists.{list_plug, list_flip, after_flip, before_flip}
 use Rattle.avl.proofs.Search.{Ends, seek_plug, entry_ends}
-use Rattle.avl.proofs.Sides.{Sides, same, opposite, sides, alike_same, alike-opposite, alike-reverse}
+use Rattle.avl.proofs.Sides.{Sides, same, opposite, sides, alike_same, alike_opposite, alike_reverse}
 use Rattle.avl.proofs.Sorting.{all_back, all_map, sorted_below}
 use Rattle.avl.proofs.Walks.{nearest}
 use Rattle.meaning.specs.Layout.{bit, following}
@@ -63,7 +63,7 @@ module _ (p : Pool) (good : WellFormed p) (t : ℕ) where
   pub sees_key : (k : ℕ) → Sees p t (get (by_key_in p k) (tree_at p t)) (lookup k (entries_of p t))
   unfolding by_key_in keys
   sees_key k =
-      let e = get-sought (keys (key_at p)) (by_key (key_at p) k) (key_exact (key_at p) k) (tree_at p t) (any_sorted p good t) in
+      let e = get_sought (keys (key_at p)) (by_key (key_at p) k) (key_exact (key_at p) k) (tree_at p t) (any_sorted p good t) in
       record {
         there = λ n. subst (Lives p t) (sym e) (all_sought (by_key (key_at p) k) (list left (tree_at p t)) (any_live p good t) (λ z. n (e ∙ z)));
         is = sym (lookup_get p k good t);
@@ -131,7 +131,7 @@ following_above key (step d x b z q) s =
     let pre = before e q ++ list e z in
     let rest = after e (step d x b z q) in
     let i : before e (step d x b z q) ++ rest ≡ pre ++ (x ∷ rest) =
-    ap (λ (l : List ℕ). l ++ rest) (alike-reverse d (before e q) (before e q ++ (list e z ++ (x ∷ [])))) ∙ simp append_assoc in
+    ap (λ (l : List ℕ). l ++ rest) (alike_reverse d (before e q) (before e q ++ (list e z ++ (x ∷ [])))) ∙ simp append_assoc in
     ap (following x) i ∙ following_at x pre rest (before_others key e pre x rest (subst (Sorted (From e (LessKey key))) i s))
 
 -- Behind the first of a tree from side e nothing follows towards that side.
@@ -201,7 +201,7 @@ module _ (p : Pool) (good : WellFormed p) (t k : ℕ) (q : Way) (place : entry (
   sees_vacant d = subst (λ (x : ℕ). Sees p t x (first_past d k (facing d (entries_of p t)))) (sym (go (sides d (side q)) refl)) (sees_past d)
     where
       go : {e : Dir} → Sides d e → side q ≡ e → alike d e (following (above q) (list (flip d) (tree_at p t))) (above q) ≡ first (after (flip d) q)
-      go opposite i = alike-opposite d _ (above q) ∙ nearest q ∙ ap (λ (e : Dir). first (after e q)) i
+      go opposite i = alike_opposite d _ (above q) ∙ nearest q ∙ ap (λ (e : Dir). first (after e q)) i
       go same i =
           alike_same d _ (above q) ∙ ap (following (above q)) (place_list (flip d))
           ∙ subst (λ (e : Dir). following (above q) (before (flip e) q ++ after (flip e) q) ≡ first (after (flip e) q)) i

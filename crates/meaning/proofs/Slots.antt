@@ -8,7 +8,7 @@ use borrow.Author.Tests.{eqb-true}
 use Rattle.avl.specs.Tree.{left, right, Tree, list}
 use Rattle.avl.specs.Search.{add, remove_by_key}
 use Rattle.avl.specs.Order.{All, nil, more, Sorted, rise, Compares, into, out, LessKey, by_key}
-use Rattle.avl.proofs.Answers.{add-into, remove-out}
+use Rattle.avl.proofs.Answers.{add_into, remove_out}
 use Rattle.avl.proofs.Keys.{Told, smaller, equal, greater, told, side_on, key_same, keys, key_exact, key_compares}
 use Rattle.avl.proofs.Sorting.{all_front, all_back, all_append, all_map, sorted_below, sorted_above, into_at, out_at, sorted_into}
 use Rattle.meaning.specs.Layout.{bit, count}
@@ -121,9 +121,9 @@ module _ (key : ℕ → ℕ) (k : ℕ) where
   -- what an insertion by key leaves of the list of a sorted tree
   pub add_list : (x : ℕ) (t : Tree) → Sorted (LessKey key) (list left t) → list left (add (by_key key k) x t) ≡ into (by_key key k) x (list left t)
   unfolding keys
-  add_list x t h = add-into (keys key) (by_key key k) (key_exact key k) t h x
+  add_list x t h = add_into (keys key) (by_key key k) (key_exact key k) t h x
 
   -- and a removal
   pub remove_list : (t : Tree) → Sorted (LessKey key) (list left t) → list left (remove_by_key (by_key key k) t) ≡ out (by_key key k) (list left t)
   unfolding keys
-  remove_list t h = remove-out (keys key) (by_key key k) (key_exact key k) t h
+  remove_list t h = remove_out (keys key) (by_key key k) (key_exact key k) t h

@@ -29,9 +29,9 @@ hangs_read rs t zero u leaf bare h = refl
 hangs_read rs t (suc k) u leaf bare h = refl
 hangs_read rs t zero u (node l x b r) (joined j a c) h = absurd (omega arith)
 hangs_read rs t (suc k) u (node l x b r) (joined j a c) h =
-    let at-l : read_tree rs k (left_in (at [] rs x)) ≡ l = rw j.left (hangs_read rs t k x l a (omega arith)) in
-    let at-r : read_tree rs k (right_in (at [] rs x)) ≡ r = rw j.right (hangs_read rs t k x r c (omega arith)) in
-    read_node rs k x j.member.low ∙ rw (at-l, at-r, ← j.balance)
+    let at_l : read_tree rs k (left_in (at [] rs x)) ≡ l = rw j.left (hangs_read rs t k x l a (omega arith)) in
+    let at_r : read_tree rs k (right_in (at [] rs x)) ≡ r = rw j.right (hangs_read rs t k x r c (omega arith)) in
+    read_node rs k x j.member.low ∙ rw (at_l, at_r, ← j.balance)
 
 -- Its links hold.
 pub hangs_linked : (rs : List (List ℕ)) (t level u : ℕ) (tr : Tree) → Hangs rs t u tr → height tr ≤ level → linked rs t level u (top tr) ≡ true
@@ -41,11 +41,11 @@ hangs_linked rs t (suc k) u leaf bare h = refl
 hangs_linked rs t zero u (node l x b r) (joined j a c) h = absurd (omega arith)
 hangs_linked rs t (suc k) u (node l x b r) (joined j a c) h =
     let w = at [] rs x in
-    let at-l : linked rs t k x (left_in w) ≡ true = rw j.left (hangs_linked rs t k x l a (omega arith)) in
-    let at-r : linked rs t k x (right_in w) ≡ true = rw j.right (hangs_linked rs t k x r c (omega arith)) in
+    let at_l : linked rs t k x (left_in w) ≡ true = rw j.left (hangs_linked rs t k x l a (omega arith)) in
+    let at_r : linked rs t k x (right_in w) ≡ true = rw j.right (hangs_linked rs t k x r c (omega arith)) in
     linked_node rs k x j.member.low t u
     ∙ all_facts (leb x (length rs) ∷ eqb (tree_in w) t ∷ eqb (parent_in w) u ∷ linked rs t k x (left_in w) ∷ linked rs t k x (right_in w) ∷ [])
-    (le-leb x (length rs) j.member.high, (eq-eqb (tree_in w) t j.member.tree, (eq-eqb (parent_in w) u j.parent, (at-l, (at-r, tt)))))
+    (le-leb x (length rs) j.member.high, (eq-eqb (tree_in w) t j.member.tree, (eq-eqb (parent_in w) u j.parent, (at_l, (at_r, tt)))))
 
 -- ---- the trees of a well-formed pool hang in its rows
 

@@ -24,7 +24,7 @@ use Rattle.meaning.specs.Calls.{Point, state_after}
 use Rattle.meaning.specs.Told.{code_at, ToldShut}
 use Rattle.meaning.specs.Places.{Stands, StoredTree}
 use Rattle.meaning.proofs.Adding.{adding_ok}
-use Rattle.meaning.proofs.Answers.{code-told, trees-kept}
+use Rattle.meaning.proofs.Answers.{code_told, trees_kept}
 use Rattle.meaning.proofs.Batches.{AllParsed, and_then, ended_good}
 use Rattle.meaning.proofs.Cursors.{lives_tree}
 use Rattle.meaning.proofs.Demand2.{count_of_tree, links_of_record, root_of_tree}
@@ -102,7 +102,7 @@ module _ {pool request answers : List ℕ} {before : List Command} {c : Command}
       → StoredTree (batch pool request answers).pool t (tree_at (perform (state_after pool before) c).state.pool t)
   final_tree t low high =
       subst (λ (v : Pool). StoredTree (batch pool request answers).pool t (tree_at v t)) final_pool
-      (final_trees p t low (omega (arith, high, trees-kept pool before)))
+      (final_trees p t low (omega (arith, high, trees_kept pool before)))
 
   -- The last command of a batch adds a record, answered with 0, and no mark is open after it. The search for its key ends at an empty place of its tree, and
   -- the bytes of the pool that the batch leaves store the tree that `_insert` gives there.
@@ -115,7 +115,7 @@ module _ {pool request answers : List ℕ} {before : List Command} {c : Command}
       let t = tree_of s c in
       let g = point_good p in
       let parsed = first_parsed (point_parsed p) in
-      let done = sym (code-told p) ∙ z in
+      let done = sym (code_told p) ∙ z in
       let can = adding_ok g.0 s c parsed g.1 h done in
       let k = inserted_there g.0 s c g.1 parsed h done in
       (k.0, k.1, subst (StoredTree b t) k.2 (final_tree t can.tree_low can.tree_high))
@@ -130,7 +130,7 @@ module _ {pool request answers : List ℕ} {before : List Command} {c : Command}
       let s = state_after pool before in
       let g = point_good p in
       let parsed = first_parsed (point_parsed p) in
-      let done = sym (code-told p) ∙ z in
+      let done = sym (code_told p) ∙ z in
       let can = adding_ok g.0 s c parsed g.1 (beside_ops_lem d c.op h).0 done in
       let k = beside_there g.0 s c g.1 parsed d h done n in
       (k.0, stores k.0 k.1 (final_tree (tree_of s c) can.tree_low can.tree_high))
@@ -155,7 +155,7 @@ module _ {pool request answers : List ℕ} {before : List Command} {c : Command}
       let b = (batch pool request answers).pool in
       let t = tree_of s c in
       let g = point_good p in
-      let done = sym (code-told p) ∙ z in
+      let done = sym (code_told p) ∙ z in
       let i = lives_tree s.pool g.1.pool t (meant s c) (finds g.0 s c g.1 h done).0 in
       let k = removed_there g.0 s c g.1 h done in
       (k.0, subst (StoredTree b t) k.1 (final_tree t i.0 i.1))

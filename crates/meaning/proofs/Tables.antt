@@ -65,7 +65,7 @@ pub record Passed (n : ℕ) (s : State) (c : Command) : Type 0 where
   pub at_last : eqb 24 n ≡ true → not_kind 4 s c ≡ false
   pub at_first : eqb 25 n ≡ true → not_kind 3 s c ≡ false
   pub mark_open : within 27 28 n ≡ true → unmarked s c ≡ false
-  pub no_mark_lem : among ((26, 26) ∷ (29, 29) ∷ []) n ≡ true → marked s c ≡ false
+  pub no_mark : among ((26, 26) ∷ (29, 29) ∷ []) n ≡ true → marked s c ≡ false
   pub name_good : adding n ≡ true → bad_name s c ≡ false
   pub slot_good : within 4 6 n ≡ true → bad_slot s c ≡ false
   pub not_stale : within 4 6 n ≡ true → stale s c ≡ false
@@ -94,7 +94,7 @@ passed s c z =
       at_last = by at_last_row;
       at_first = by at_first_row;
       mark_open = by (row_of 23);
-      no_mark_lem = by (row_of 24);
+      no_mark = by (row_of 24);
       name_good = by (row_of 13);
       slot_good = by (row_of 14);
       not_stale = by (row_of 15);

@@ -14,7 +14,7 @@ use Rattle.meaning.specs.Doors.{run, begun, batch}
 use Rattle.meaning.specs.WellFormed.{WellFormed}
 use Rattle.meaning.specs.Calls.{Point, state_after, Inside, one_more, RefusedFrom, shown_slot, shown_stamp}
 use Rattle.meaning.specs.Told.{answer_at, code_at, ToldGoneFrom, ToldMark, ToldAdded, ToldRemoved, ToldShut, ToldOut, in_header, in_answer}
-use Rattle.meaning.proofs.Answers.{answer-told, code-told}
+use Rattle.meaning.proofs.Answers.{answer_told, code_told}
 use Rattle.meaning.proofs.Bindings.{next_keeps}
 use Rattle.meaning.proofs.Given.{removed_now}
 use Rattle.meaning.proofs.KeptHandles.{gone_since_mark, removed_for_ever, committed_for_ever, reset_for_ever}
@@ -53,10 +53,10 @@ committed_gone_told {pool = pool} {before = before} {c = c} between commit rest 
     let t = was_there p slot stamp h in
     let s = state_after pool before in
     let live : rec_at s.pool (meant s c) ≡ some t.rec = ap (rec_at s.pool) t.meant_is ∙ t.is in
-    let at-commit = point_on {rest = commit ∷ rest} (c ∷ between) p in
-    (refused_from_told (point_on {rest = rest} (commit ∷ []) at-commit) slot stamp).0
+    let at_commit = point_on {rest = commit ∷ rest} (c ∷ between) p in
+    (refused_from_told (point_on {rest = rest} (commit ∷ []) at_commit) slot stamp).0
     (same_handle t.meant_is t.stamp_is
-    (committed_for_ever between commit rest p inside h.removes t.done t.rec live e (sym (code-told at-commit) ∙ z)))
+    (committed_for_ever between commit rest p inside h.removes t.done t.rec live e (sym (code_told at_commit) ∙ z)))
 
 -- ---- added and removed under one mark
 
@@ -120,8 +120,8 @@ shown_out {pool} {request} {answers} {before} {c} {rest} p stamp z n h =
     let after : state_after pool (before ++ (c ∷ [])) ≡ (perform s c).state = state_on pool before (c ∷ []) in
     let good = (point_good p).1.pool in
     let good' = subst (λ (t : State). WellFormed t.pool) after (point_good (point_on {rest = rest} (c ∷ []) p)).1.pool in
-    let g = answer_given s c (sym (code-told p) ∙ z) good good' (λ i. n (ap shown_slot (answer-told p) ∙ i)) in
-    go after (given_out s c stamp g (ap shown_stamp (sym (answer-told p)) ∙ h) good good')
+    let g = answer_given s c (sym (code_told p) ∙ z) good good' (λ i. n (ap shown_slot (answer_told p) ∙ i)) in
+    go after (given_out s c stamp g (ap shown_stamp (sym (answer_told p)) ∙ h) good good')
   where
     go : state_after pool (before ++ (c ∷ [])) ≡ (perform (state_after pool before) c).state
         → (stamp < (state_after pool before).pool.next) ⊎ (stamp < (perform (state_after pool before) c).state.pool.next)
@@ -153,4 +153,4 @@ pub reset_gone_told : {pool request answers : List ℕ} {before : List Command} 
     → (slot stamp : ℕ) → ToldOut pool request answers before stamp → ToldGoneFrom pool request answers (before ++ (reset ∷ [])) slot stamp
 reset_gone_told {reset = reset} {rest = rest} p e z slot stamp h =
     (refused_from_told (point_on {rest = rest} (reset ∷ []) p) slot stamp).0
-    (reset_for_ever p e (sym (code-told p) ∙ z) slot stamp (out_at p stamp h))
+    (reset_for_ever p e (sym (code_told p) ∙ z) slot stamp (out_at p stamp h))

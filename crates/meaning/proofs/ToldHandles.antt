@@ -9,7 +9,7 @@ use Rattle.meaning.specs.Pool.{read}
 use Rattle.meaning.specs.Doors.{commands, run, begun, batch}
 use Rattle.meaning.specs.Calls.{Calls, Point, state_after, Marked, SameContents, AddedBetween, RefusedOn, RefusedFrom, shown_slot, shown_stamp}
 use Rattle.meaning.specs.Told.{code_at, ToldGoneOn, ToldGoneFrom, ToldMark, ToldAdded}
-use Rattle.meaning.proofs.Answers.{answer-told, code-told, gone-told, told-gone}
+use Rattle.meaning.proofs.Answers.{answer_told, code_told, gone_told, told_gone}
 use Rattle.meaning.proofs.Demand3.{rollback_is_done, added_refused, rollback_gives_back_bytes, end_gives_back_bytes, added_refused_later}
 use Rattle.meaning.proofs.Points.{point_on}
 use Rattle.meaning.specs.Refused.{◌exactly_if◌}
@@ -20,8 +20,8 @@ use Rattle.meaning.specs.Refused.{◌exactly_if◌}
 -- zeros, and name hands back nothing for it.
 pub refused_on_told : (pool : List ℕ) (slot stamp : ℕ) → RefusedOn pool slot stamp exactly_if ToldGoneOn pool slot stamp
 refused_on_told pool slot stamp = (
-  λ h. record { by_batch = λ w a before c rest p n. gone-told p n.op (h.by_batch w a before c rest p n); by_name = h.by_name },
-  λ h. record { by_batch = λ w a before c rest p n. told-gone p (h.by_batch w a before c rest p n); by_name = h.by_name },
+  λ h. record { by_batch = λ w a before c rest p n. gone_told p n.op (h.by_batch w a before c rest p n); by_name = h.by_name },
+  λ h. record { by_batch = λ w a before c rest p n. told_gone p (h.by_batch w a before c rest p n); by_name = h.by_name },
 )
 
 -- the point of a later command of a batch
@@ -40,11 +40,11 @@ pub refused_from_told : {pool request answers : List ℕ} {before rest : List Co
     → RefusedFrom pool request answers before slot stamp exactly_if ToldGoneFrom pool request answers before slot stamp
 refused_from_told p slot stamp = (
   λ h. record {
-    in_this_batch = λ more c rest e n. gone-told (later p more c rest e) n.op (h.in_this_batch more c rest e n);
+    in_this_batch = λ more c rest e n. gone_told (later p more c rest e) n.op (h.in_this_batch more c rest e n);
     ever_after = λ d l. (refused_on_told d slot stamp).0 (h.ever_after d l);
   },
   λ h. record {
-    in_this_batch = λ more c rest e n. told-gone (later p more c rest e) (h.in_this_batch more c rest e n);
+    in_this_batch = λ more c rest e n. told_gone (later p more c rest e) (h.in_this_batch more c rest e n);
     ever_after = λ d l. (refused_on_told d slot stamp).1 (h.ever_after d l);
   },
 )
@@ -55,8 +55,8 @@ refused_from_told p slot stamp = (
 pub mark_told : (pool request answers : List ℕ) (before : List Command) (mark : Command) (between rest : List Command)
     → Marked pool request answers before mark between rest exactly_if ToldMark pool request answers before mark between rest
 mark_told pool request answers before mark between rest = (
-  λ h. record { point = h.point; is_mark = h.is_mark; done = code-told h.point ∙ h.done; inside = h.inside },
-  λ h. record { point = h.point; is_mark = h.is_mark; done = sym (code-told h.point) ∙ h.done; inside = h.inside },
+  λ h. record { point = h.point; is_mark = h.is_mark; done = code_told h.point ∙ h.done; inside = h.inside },
+  λ h. record { point = h.point; is_mark = h.is_mark; done = sym (code_told h.point) ∙ h.done; inside = h.inside },
 )
 
 -- the point of a command between the mark and what follows
@@ -80,9 +80,9 @@ added_told between rest p slot stamp = (
         others = h.others;
         split = h.split;
         adds = h.adds;
-        done = code-told q ∙ h.done;
-        slot_shown = ap shown_slot (answer-told q) ∙ h.slot_shown;
-        stamp_shown = ap shown_stamp (answer-told q) ∙ h.stamp_shown;
+        done = code_told q ∙ h.done;
+        slot_shown = ap shown_slot (answer_told q) ∙ h.slot_shown;
+        stamp_shown = ap shown_stamp (answer_told q) ∙ h.stamp_shown;
       },
   λ h.
       let q = between_point between rest p h.first h.command h.others h.split in
@@ -92,9 +92,9 @@ added_told between rest p slot stamp = (
         others = h.others;
         split = h.split;
         adds = h.adds;
-        done = sym (code-told q) ∙ h.done;
-        slot_shown = ap shown_slot (sym (answer-told q)) ∙ h.slot_shown;
-        stamp_shown = ap shown_stamp (sym (answer-told q)) ∙ h.stamp_shown;
+        done = sym (code_told q) ∙ h.done;
+        slot_shown = ap shown_slot (sym (answer_told q)) ∙ h.slot_shown;
+        stamp_shown = ap shown_stamp (sym (answer_told q)) ∙ h.stamp_shown;
       },
 )
 
@@ -112,7 +112,7 @@ added_gone_told {pool} {request} {answers} {before} {mark} {between} {back} {res
     let m = (mark_told pool request answers before mark between (back ∷ rest)).1 k in
     let at_back = point_on {rest = back ∷ rest} (mark ∷ between) k.point in
     let behind = point_on {rest = rest} (back ∷ []) at_back in (
-      code-told at_back ∙ rollback_is_done m e,
+      code_told at_back ∙ rollback_is_done m e,
       (refused_from_told behind slot stamp).0 (added_refused m e ((added_told between (back ∷ rest) k.point slot stamp).1 d)),
     )
 

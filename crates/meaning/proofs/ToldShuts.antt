@@ -15,7 +15,7 @@ use Rattle.meaning.specs.Command.{take_out, taken_out, op_of, meant, refusal, an
 use Rattle.meaning.specs.Doors.{run, begun}
 use Rattle.meaning.specs.Calls.{Point, state_after, shown_slot, shown_stamp}
 use Rattle.meaning.specs.Told.{NoMark, none_else, one_else, ToldShut, since_start, since_close, ToldRemoved}
-use Rattle.meaning.proofs.Answers.{answer-told, code-told}
+use Rattle.meaning.proofs.Answers.{answer_told, code_told}
 use Rattle.meaning.proofs.Batches.{AllParsed, none_left, and_then, commands_parsed, begun_good}
 use Rattle.meaning.proofs.Clauses.{within_is}
 use Rattle.meaning.proofs.Commands.{after_op, marked_at, perform_good}
@@ -25,7 +25,7 @@ use Rattle.meaning.proofs.Formed.{not_both}
 use Rattle.meaning.proofs.Points.{Anything, parsed_parts, point_stored, point_good, point_parsed, state_on}
 use Rattle.meaning.proofs.Pools.{sound_pool}
 use Rattle.meaning.proofs.Seen.{finds}
-use Rattle.meaning.specs.States.{Journal, shut, begun as opened-at, GoodState, Parsed}
+use Rattle.meaning.specs.States.{Journal, shut, begun as opened_at, GoodState, Parsed}
 
 -- ---- a record removed
 
@@ -44,7 +44,7 @@ pub was_there : {pool request answers : List ℕ} {before : List Command} {c : C
 unfolding carried_out take_out taken_out meant
 was_there {pool = pool} {before = before} {c = c} p slot stamp h =
     let s = state_after pool before in
-    let z : refusal s c ≡ 0 = sym (code-told p) ∙ h.done in
+    let z : refusal s c ≡ 0 = sym (code_told p) ∙ h.done in
     let x = meant s c in
     let g = point_good p in
     let l = (finds g.0 s c g.1 h.removes z).0 in
@@ -53,11 +53,11 @@ was_there {pool = pool} {before = before} {c = c} p slot stamp h =
     let w = g.1.pool in
     let fits = (w.recs x l.rec l.is).stamp_high in
     let shows = answer_shows k x l.rec (omega (arith, l.high, w.slots_high)) (omega (arith, fits, w.next_high)) in
-    let here : x ≡ slot = sym (ap shown_slot (answer-told p ∙ is) ∙ shows.0) ∙ h.slot_shown in
+    let here : x ≡ slot = sym (ap shown_slot (answer_told p ∙ is) ∙ shows.0) ∙ h.slot_shown in
     record {
       rec = l.rec;
       is = ap (rec_at s.pool) (sym here) ∙ l.is;
-      stamp_is = sym (ap shown_stamp (answer-told p ∙ is) ∙ shows.1) ∙ h.stamp_shown;
+      stamp_is = sym (ap shown_stamp (answer_told p ∙ is) ∙ shows.1) ∙ h.stamp_shown;
       meant_is = here;
       done = z;
     }
@@ -85,7 +85,7 @@ journal_shut shut = refl
 
 shut_journal : {w : Option Pool} {m : Option Mark} {p : Pool} → Journal w m p → m ≡ none → w ≡ none
 shut_journal shut e = refl
-shut_journal (opened-at {m = m} g h) e = absurd (not_both (some m) refl e)
+shut_journal (opened_at {m = m} g h) e = absurd (not_both (some m) refl e)
 
 -- Where the answers say so, no mark is open.
 pub shut_at : {pool request answers : List ℕ} {before rest : List Command} → Point pool request answers before rest
@@ -103,7 +103,7 @@ shut_at {pool} {request} {answers} {before} {rest} p (since_close earlier close 
       done = p.done;
       split = p.split ∙ ap (λ (l : List Command). l ++ rest) e ∙ append_assoc earlier (close ∷ since) rest;
     } in
-    let done : refusal s close ≡ 0 = sym (code-told q) ∙ z in
+    let done : refusal s close ≡ 0 = sym (code_told q) ∙ z in
     let g = point_good q in
     let t = (perform s close).state in
     let closed : t.mark ≡ none = closes s close done o in

@@ -26,7 +26,7 @@ use Rattle.meaning.proofs.Clauses.{is_balanced, is_rising}
 use Rattle.meaning.proofs.Contents.{live_read}
 use Rattle.meaning.proofs.Members.{all_node, Lives, tree_lives, tree_depth}
 use Rattle.meaning.proofs.Packed.{rows_many, entry_at_lem, bytes_length, written_header, written_entries, written_records, written_text}
-use Rattle.meaning.proofs.ReadBack.{on-slot, free_tree, slots_back}
+use Rattle.meaning.proofs.ReadBack.{on_slot, free_tree, slots_back}
 use Rattle.meaning.proofs.Rows.{Small, links_fit, live_row, free_row, root_is, count_is, entry_zeros}
 use Rattle.meaning.proofs.Stored.{hangs_linked, tree_hangs, tree_back}
 
@@ -113,7 +113,7 @@ live_sound p b r k g f s =
 record_sound : (p : Pool) (x : ℕ) → WellFormed p → 1 ≤ x → x ≤ length p.slots
     → record_ok (length p.trees) (length p.text) p.next (at [] (record_rows p 1 p.slots) x) ≡ true
 record_sound p x v lo hi =
-    on-slot (rec_at p x)
+    on_slot (rec_at p x)
     (λ e. rw (free_row p x lo hi e) (free_sound (length p.trees) (length p.text) p.next))
     (λ r e.
     let g = v.recs x r e in
@@ -141,7 +141,7 @@ row_lives : (p : Pool) (t x : ℕ) → WellFormed p → 1 ≤ t → 1 ≤ x → 
     → lives_in t (rec_at p x) ≡ eqb (tree_in (at [] (record_rows p 1 p.slots) x)) t
 unfolding lives_in
 row_lives p t x v lo l h =
-    on-slot (rec_at p x) (λ e. rw (e, free_row p x l h e, free_tree) (sym (ne_eqb 0 t (omega arith)))) (λ r e. rw (e, (live_row p x r v e).tree_is))
+    on_slot (rec_at p x) (λ e. rw (e, free_row p x l h e, free_tree) (sym (ne_eqb 0 t (omega arith)))) (λ r e. rw (e, (live_row p x r v e).tree_is))
 
 row_key : (p : Pool) (t x : ℕ) → WellFormed p → Lives p t x → key_in (at [] (record_rows p 1 p.slots) x) ≡ key_at p x
 unfolding key_at key_of

@@ -150,9 +150,9 @@ module _ (w : Option Pool) (s : State) (g : GoodState w s) (names : List ℕ) (c
   unfolding meant_by tests
   add_row_agrees {first} {k} {own} {n} {T} {t} {lost} r i j given same x d place comes done_is lost_is =
       let e = cond first k (name_test names (head_of s.pool).numbers c n given) in
-      let e-is : e ≡ tests s (meant_by names c) first k own n = tests_same s names c first k given own n same in
-      add_new_agrees w s g names c f r.row r.adds e t x d comes e-is
-      (λ z. let a = passed_test first k i (sym e-is ∙ z) in
+      let e_is : e ≡ tests s (meant_by names c) first k own n = tests_same s names c first k given own n same in
+      add_new_agrees w s g names c f r.row r.adds e t x d comes e_is
+      (λ z. let a = passed_test first k i (sym e_is ∙ z) in
       let b = passed_test (bad_name s (meant_by names c)) 13 (omega arith) a.1 in
       let o = passed_test own n j b.1 in
       record { tree_is = sym r.tree_is; hangs = place a.0 o.0; done_is = done_is z }) lost_is

@@ -205,12 +205,12 @@ pub take_agrees : {s : State} {c : Command} {M : Meant} {T : Then} {tests : ℕ}
     → (let h = head_of s.pool in
     Agrees s (perform s c) (view.stepped_by (work_in s) a (take_out_n (body_of s.pool) h.numbers.free (tree_n h.table a.tree) x e comes)))
 unfolding work_in
-take_agrees {s} {c} {M} {T} {tests} {lost} good r a t e x comes home is f some-slot k l =
+take_agrees {s} {c} {M} {T} {tests} {lost} good r a t e x comes home is f some_slot k l =
     let m = body_of s.pool in
     let w = work_in s in
     let h = head_of s.pool in
     ending_agrees s c e (lost e) _ (is ∙ sym r.tests_are) (r.lost_is e)
-    (λ z. let b = (f z).lives (some-slot z) in
+    (λ z. let b = (f z).lives (some_slot z) in
     let v : record_n m x ≡ record_of b.rec = (taken_image s.pool x b.rec good b.is b.high).0 in
     let own : b.rec.tree ≡ a.tree = b.tree_is ∙ sym home in
     let here : (record_n m x).tree ≡ a.tree = in_tree b.rec v ∙ own in

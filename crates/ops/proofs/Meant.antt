@@ -116,10 +116,10 @@ ended p good c low high small leaf q i =
     }
 ended p good c low high small (node l x b r) q i =
     let h = found_lives p good c.tree low high (by_key_in p c.key) i in
-    let some-slot : eqb x 0 ≡ false = ne_eqb x 0 (λ z. omega (arith, z, h.low)) in
+    let some_slot : eqb x 0 ≡ false = ne_eqb x 0 (λ z. omega (arith, z, h.low)) in
     record {
-      near = ap (λ (e : Bool). cond e (above q) x) some-slot;
-      cursor = λ k. ap (λ (e : Bool). after_n k c (cond e (Below (code_dir (side q))) Shown) (cond e (above q) x)) some-slot;
+      near = ap (λ (e : Bool). cond e (above q) x) some_slot;
+      cursor = λ k. ap (λ (e : Bool). after_n k c (cond e (Below (code_dir (side q))) Shown) (cond e (above q) x)) some_slot;
       lives = λ _. h;
     }
 

@@ -36,9 +36,9 @@ first_met_lem n s c r rs h = ap (λ (b : Bool). cond b r.number (first_of rs n s
 unknown_so : (s : State) (c : Command) → within 1 last_op c.op ≡ false → within 12 25 c.op ≡ false
     → Agrees s (perform s c) (body_of s.pool, view.refusal (placed (work_in s) nowhere) 10)
 unfolding refusal refusals refuse◌at◌if◌ unknown always after_refusal
-unknown_so s c none-of-all none-of-those =
-    refused_agrees s c 10 nowhere (first_met_lem c.op s c _ _ (ap (λ (b : Bool). not b && true) none-of-all)) (λ z. omega (arith, z))
-    (sym (ap (λ (b : Bool). cond (b && not (within 14 15 c.op && false || within 24 25 c.op && false)) s.cursor nowhere) none-of-those))
+unknown_so s c none_of_all none_of_those =
+    refused_agrees s c 10 nowhere (first_met_lem c.op s c _ _ (ap (λ (b : Bool). not b && true) none_of_all)) (λ z. omega (arith, z))
+    (sym (ap (λ (b : Bool). cond (b && not (within 14 15 c.op && false || within 24 25 c.op && false)) s.cursor nowhere) none_of_those))
 
 -- A command whose number is no op's.
 pub unknown_agrees : (s : State) (names : List ℕ) (c : CodeCommand) → (c.op ≡ 0) ⊎ (last_op < c.op)

@@ -15,7 +15,7 @@ use Rattle.avl.specs.Way.{before, after}
 use Rattle.avl.specs.Links.{Links, unlinked, links_in}
 use Rattle.avl.specs.Search.{Spot, entry, get}
 use Rattle.avl.specs.Order.{All, sought}
-use Rattle.avl.proofs.Answers.{Outcome, vacant, occupied, entry-outcome, get-sought}
+use Rattle.avl.proofs.Answers.{Outcome, vacant, occupied, entry_outcome, get_sought}
 use Rattle.avl.proofs.Keys.{keys, key_exact, key_same, same_key, side_on}
 use Rattle.avl.proofs.Sorting.{all_head, all_back, all_map, sought_at}
 use Rattle.tree.specs.Held.{one, times, room}
@@ -88,7 +88,7 @@ edited_cargo e y n = ap cargo_of (sym (e.slots y n))
 pub entry_vacant : (p : Pool) (t k : ℕ) → WellFormed p → 1 ≤ t → t ≤ length p.trees → NewKey p t k → (entry (by_key_in p k) (tree_at p t)).part ≡ leaf
 unfolding by_key_in keys
 entry_vacant p t k w low high new =
-    go (entry-outcome (keys (key_at p)) (by_key_in p k) (key_exact (key_at p) k) (tree_at p t) (w.trees t low high).keys_rise)
+    go (entry_outcome (keys (key_at p)) (by_key_in p k) (key_exact (key_at p) k) (tree_at p t) (w.trees t low high).keys_rise)
   where
     go : {f : Spot} → Outcome (by_key_in p k) (list left (tree_at p t)) f → f.part ≡ leaf
     go (vacant e g l) = refl
@@ -116,7 +116,7 @@ entry_occupied p x r w live =
     let s = drop_stands x r p (formed w) live in
     let a = drop_around x r p (formed w) live in
     let found : get (by_key_in p r.key) t ≡ x =
-    get-sought (keys (key_at p)) (by_key_in p r.key) (key_exact (key_at p) r.key) t (w.trees r.tree g.tree_low g.tree_high).keys_rise
+    get_sought (keys (key_at p)) (by_key_in p r.key) (key_exact (key_at p) r.key) t (w.trees r.tree g.tree_low g.tree_high).keys_rise
     ∙ ap (sought (by_key_in p r.key)) s.split
     ∙ sought_at (by_key_in p r.key) s.low x s.high (all_map (λ y h. side_on right r.key (key_at p y) h) a.below)
     (key_same r.key (key_at p x) (sym (live_key p x r live))) in

@@ -135,13 +135,13 @@ free_above p v zero i h =
     let e : i ≡ length p.slots = omega arith in
     sym (ap (free_from (suc i)) (ap (λ (n : ℕ). drop n p.slots) e ∙ drop-length p.slots))
 free_above p v (suc n) i h =
-    let in-it : i < length p.slots = omega arith in
+    let in_it : i < length p.slots = omega arith in
     let above : i + 1 ≡ suc i = omega arith in
     let rest = lowest_n n (body_of p) (i + 1) in
     let later = ap (lowest_n n (body_of p)) above ∙ free_above p v n (suc i) (omega arith) in
-    ap (λ (t : ℕ). cond (eqb t 0) (i + 1) rest) (tree_shown p i v in-it)
+    ap (λ (t : ℕ). cond (eqb t 0) (i + 1) rest) (tree_shown p i v in_it)
     ∙ free_here p i v (rec_at p (suc i)) (drop (suc i) p.slots) refl rest later
-    ∙ ap (free_from (suc i)) (slot_first p i in-it)
+    ∙ ap (free_from (suc i)) (slot_first p i in_it)
 
 -- The lowest free slot above slot i is found.
 pub lowest_image : (p : Pool) → WellFormed p → (i : ℕ) → i ≤ length p.slots

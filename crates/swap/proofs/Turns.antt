@@ -116,7 +116,7 @@ module _ (k : ℕ) (m : List ℕ) (t : AvlTree) (x p : ℕ) (e d : Dir) (b c o n
 
   -- ---- the neighbour stands deeper
 
-  module _ (q : Deeper n x p i c o w) (n_c : n ≡ c → ⊥) (i-0 : i ≡ 0 → ⊥) where
+  module _ (q : Deeper n x p i c o w) (n_c : n ≡ c → ⊥) (i_0 : i ≡ 0 → ⊥) where
     -- a link of n or x, once p points at n
     still : (f : Field) → (get_n placed n f ≡ get_n m n f) × (get_n placed x f ≡ get_n m x f)
     unfolding placed
@@ -149,13 +149,13 @@ module _ (k : ℕ) (m : List ℕ) (t : AvlTree) (x p : ℕ) (e d : Dir) (b c o n
         let y = get_n placed n in
         let u = new_root p t n in
         theirs q.p_n q.i_p
-        ∙ simp (ne_eqb n c n_c) (leave_is k (deep_n placed n x d (get_n m x (child left)) (get_n m x (child right)) i ie) u x i ie i-0)
+        ∙ simp (ne_eqb n c n_c) (leave_is k (deep_n placed n x d (get_n m x (child left)) (get_n m x (child right)) i ie) u x i ie i_0)
         ∙ ap (λ (v : List ℕ). lessened (shrink_n k v u i ie))
         (ap (λ v. detach_n v x)
         (deep_turn placed n x d _ _ i ie swapped (both_up _ m x n d r.near r.far q.c_o) (its w (y (child (flip d))) (y parent) (y balance) refl))
         ∙ deep_stores n x d p e i ie c o w b q w (y (child (flip d))) (y parent) (y balance) m)
         ∙ sym (ap lessened
-        (ours i-0
+        (ours i_0
         (get_slots _ i x (child ie) (child d) w q.i_x ∙ get_slots m w x parent (child d) i q.w_x ∙ r.near)
         (get_slots _ i x (child ie) (child (flip d)) w q.i_x ∙ get_slots m w x parent (child (flip d)) i q.w_x ∙ r.far)
         ∙ simp (ne_eqb i x q.i_x) refl))
@@ -163,7 +163,7 @@ module _ (k : ℕ) (m : List ℕ) (t : AvlTree) (x p : ℕ) (e d : Dir) (b c o n
 -- ---- the neighbour is the child itself
 
 module _ (k : ℕ) (m : List ℕ) (t : AvlTree) (x p : ℕ) (e d : Dir) (b o n w : ℕ) (r : Reads k m x p d b n o n x d w) (q : Direct n x p w)
-    (x-0 : x ≡ 0 → ⊥) (n-0 : n ≡ 0 → ⊥) where
+    (x_0 : x ≡ 0 → ⊥) (n_0 : n ≡ 0 → ⊥) where
   pub direct_same : put_n m w parent n ≡ m → put_n m n (child d) w ≡ m → rust_remove2 k m t x p e ≡ lessened (remove2_n k m t x p e)
   unfolding placed
   direct_same f g =
@@ -172,7 +172,7 @@ module _ (k : ℕ) (m : List ℕ) (t : AvlTree) (x p : ℕ) (e d : Dir) (b o n w
       let within : Within (put_n m w parent x) x =
       record { low = r.inside.low; high = subst (λ (y : ℕ). 32 * x ≤ y) (sym (length_put m w parent x)) r.inside.high } in
       theirs k m t x p e d b n o n x d w r q.p_n (λ h. q.p_x (sym h))
-      ∙ simp (eq-eqb n n refl) (leave_is k (direct_n m₁ n x d p) u x n d n-0)
+      ∙ simp (eq-eqb n n refl) (leave_is k (direct_n m₁ n x d p) u x n d n_0)
       ∙ ap (λ (v : List ℕ). lessened (shrink_n k v u n d))
       (ap (λ v. detach_n v x)
       (direct_turn m₁ n x d p (get_slots _ n x parent balance p q.n_x ∙ get_slots m p x (child e) balance n q.p_x ∙ r.bal)
@@ -180,7 +180,7 @@ module _ (k : ℕ) (m : List ℕ) (t : AvlTree) (x p : ℕ) (e d : Dir) (b o n w
       ∙ get_slots m p x (child e) (child (flip d)) n q.p_x ∙ r.far))
       ∙ direct_stores n x d p e o w b q m f g)
       ∙ sym (ap lessened
-      (ours k m t x p e d b n o n x d w r x-0
+      (ours k m t x p e d b n o n x d w r x_0
       (get_same _ x (child d) w within.low within.high r.small)
       (get_fields _ x (child d) (child (flip d)) w (near_far d) ∙ get_slots m w x parent (child (flip d)) x q.w_x ∙ r.far)
       ∙ simp (eq-eqb x x refl) refl))

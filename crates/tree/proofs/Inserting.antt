@@ -49,10 +49,10 @@ link_at {N} k d s b z p x n m fuel r h i c =
     let q = step d s b z p in
     let empty : Placed N q leaf = record { once = λ y. omega (arith, h.once y) } in
     let free : times_w x q ≡ 0 = omega (arith, h.once x, here x, room_low N x) in
-    let child-in = ap (λ y. put_n (put_n y x parent s) s (child d) x) (sym (at_plug q leaf m empty))
+    let child_in = ap (λ y. put_n (put_n y x parent s) s (child d) x) (sym (at_plug q leaf m empty))
     ∙ ap (λ y. put_n y s (child d) x) (around_past q 0 m x parent s free ∙ ap (around q 0) (bud m x s c))
     ∙ child_at d s b z p (single x) 0 x (over (single x) s m) h in
-    link_below _ _ x s d k (above_alone d s b z p (single x) h).0 child-in
+    link_below _ _ x s d k (above_alone d s b z p (single x) h).0 child_in
     ∙ ap (λ (o : AvlTree). grow_n k (at q (single x) m) o s d) (pointed_plug q leaf (single x) n)
     ∙ climb_at grow_turn grown_steps grown_list k q leaf (single x) n m fuel r h (plug_open q leaf i).1 (budding x)
 

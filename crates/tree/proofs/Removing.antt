@@ -81,9 +81,9 @@ pub remove1_at : {N : ℕ} (k : ℕ) (p : Way) (d : Dir) (s : ℕ) (b : Bal) (t 
 remove1_at {N} k p d s b t n m fuel r h i =
     let o = plug_open p (branch d leaf s b t) i in
     let q = placed_part p d s b t m r h in
-    let s-p : times_w s p ≡ 0 = omega (arith, all p d s b t m r h s, here s, room_low N s) in
-    let s-t : times s t ≡ 0 = omega (arith, all p d s b t m r h s, here s, room_low N s) in
-    remove1_turn k _ _ s (above p) (hung p) (top t) (hang_part p d s b t m r h _) (detach_at p t m s d 0 (top t) (above p) (code b) s-p s-t)
+    let s_p : times_w s p ≡ 0 = omega (arith, all p d s b t m r h s, here s, room_low N s) in
+    let s_t : times s t ≡ 0 = omega (arith, all p d s b t m r h s, here s, room_low N s) in
+    remove1_turn k _ _ s (above p) (hung p) (top t) (hang_part p d s b t m r h _) (detach_at p t m s d 0 (top t) (above p) (code b) s_p s_t)
     ∙ ap (λ (x : AvlTree). cond (eqb (above p) 0) (at p t (clear m s), x) (shrink_n k (at p t (clear m s)) x (above p) (hung p)))
     (pointed_plug p (branch d leaf s b t) t n)
     ∙ onward_is shrink_n k p t t n (clear m s) q refl

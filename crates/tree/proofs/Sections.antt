@@ -235,10 +235,10 @@ pub section_over : (t : Tree) (u : ℕ) (k : ℕ → Links) (c : ℕ → Cargo) 
 unfolding over times links_in
 section_over leaf u k c N tail w h = refl
 section_over (node l s b r) u k c N tail w h =
-    let in-it = room_in N s (omega (arith, h s, here s)) in
+    let in_it = room_in N s (omega (arith, h s, here s)) in
     ap (λ m. write (over l s m) s left (top l) (top r) u (code b)) (section_over r s k c N tail w (λ x. omega (arith, h x)))
     ∙ ap (λ m. write m s left (top l) (top r) u (code b)) (section_over l s (λ x. links_in r s x (k x)) c N tail w (λ x. omega (arith, h x)))
-    ∙ write_section (λ x. links_in l s x (links_in r s x (k x))) c N s (top l) (top r) u (code b) tail w in-it.0 in-it.1
+    ∙ write_section (λ x. links_in l s x (links_in r s x (k x))) c N s (top l) (top r) u (code b) tail w in_it.0 in_it.1
 
 -- cleared links are those of a record that is in no tree
 pub clear_section : (k : ℕ → Links) (c : ℕ → Cargo) (N s : ℕ) (tail : List ℕ) → Whole c → 1 ≤ s → s ≤ N

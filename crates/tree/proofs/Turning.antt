@@ -77,21 +77,21 @@ module _ {N : ℕ} (p : Way) (d : Dir) (a : Tree) (c : ℕ) (b : Bal) (w : Tree)
   stores₁ v₁ v₂ =
       let u = above p in
       let x = top w in
-      let s-p : times_w s p ≡ 0 = omega (arith, all₁ s, here s, room_low N s) in
-      let c-p : times_w c p ≡ 0 = omega (arith, all₁ c, here c, room_low N c) in
-      let w-p : times_w x p ≡ 0 = omega (arith, all₁ x, top_full N w) in
-      let w-a : times x a ≡ 0 = omega (arith, all₁ x, top_full N w) in
+      let s_p : times_w s p ≡ 0 = omega (arith, all₁ s, here s, room_low N s) in
+      let c_p : times_w c p ≡ 0 = omega (arith, all₁ c, here c, room_low N c) in
+      let w_p : times_w x p ≡ 0 = omega (arith, all₁ x, top_full N w) in
+      let w_a : times x a ≡ 0 = omega (arith, all₁ x, top_full N w) in
       let s_c : s ≡ c → ⊥ = apart c s (omega (arith, all₁ c, here c, room_low N c)) in
       let s_w : s ≡ x → ⊥ = apart x s (omega (arith, all₁ x, top_full N w)) in
-      let c-w : c ≡ x → ⊥ = apart x c (omega (arith, all₁ x, top_full N w)) in (
-        pass p s _ _ s balance v₁ s-p (write_bal _ s d c (top z) u (code bs) v₁),
-        pass p s _ _ c balance v₂ c-p (under _ _ s d c (top z) u v₁ c balance v₂ s_c (write_bal _ c d (top a) x s (code b) v₂)),
-        pass p s _ _ s parent c s-p (write_up _ s d c (top z) u v₁ c),
-        pass p s _ _ c (child (flip d)) s c-p (under _ _ s d c (top z) c v₁ c (child (flip d)) s s_c (write_far _ c d (top a) x s v₂ s)),
-        pass p s _ _ x parent s w-p
+      let c_w : c ≡ x → ⊥ = apart x c (omega (arith, all₁ x, top_full N w)) in (
+        pass p s _ _ s balance v₁ s_p (write_bal _ s d c (top z) u (code bs) v₁),
+        pass p s _ _ c balance v₂ c_p (under _ _ s d c (top z) u v₁ c balance v₂ s_c (write_bal _ c d (top a) x s (code b) v₂)),
+        pass p s _ _ s parent c s_p (write_up _ s d c (top z) u v₁ c),
+        pass p s _ _ c (child (flip d)) s c_p (under _ _ s d c (top z) c v₁ c (child (flip d)) s s_c (write_far _ c d (top a) x s v₂ s)),
+        pass p s _ _ x parent s w_p
             (under _ _ s d c (top z) c v₁ x parent s s_w
-            (under _ _ c d (top a) s s v₂ x parent s c-w (over_past a c _ x parent s w-a ∙ ap (over a c) (over_up w c s (over z s m))))),
-        pass p s _ _ s (child d) x s-p (write_near _ s d c (top z) c v₁ x),
+            (under _ _ c d (top a) s s v₂ x parent s c_w (over_past a c _ x parent s w_a ∙ ap (over a c) (over_up w c s (over z s m))))),
+        pass p s _ _ s (child d) x s_p (write_near _ s d c (top z) c v₁ x),
       )
 
   pub single_at : xor (code b) (to_balance d) ≡ code b₁ → cond (not (eqb (code b) (to_balance d))) (to_balance (flip d)) 0 ≡ code b₂
@@ -153,16 +153,16 @@ module _ {N : ℕ} (p : Way) (d : Dir) (a : Tree) (c : ℕ) (bc : Bal) (u : Tree
   end₂ : three (parts₂ c s) c s c 0 (top u) g (code b₂) (top v) g (code b₁) ≡ over after₂ c m
   unfolding branch
   end₂ =
-      let s-a : times s a ≡ 0 = omega (arith, all₂ s, here s, room_low N s) in
-      let s-u : times s u ≡ 0 = omega (arith, all₂ s, here s, room_low N s) in
+      let s_a : times s a ≡ 0 = omega (arith, all₂ s, here s, room_low N s) in
+      let s_u : times s u ≡ 0 = omega (arith, all₂ s, here s, room_low N s) in
       sym (over_branch d (branch d a c b₂ u) g even (branch d v s b₁ z) c m
       (λ x. omega (arith, all₂ x, times_branch x d a c b₂ u, times_branch x d v s b₁ z, room_low N x))
       ∙ ap (λ n. write n g d c s c 0)
       (over_branch d a c b₂ u g _ (λ x. omega (arith, all₂ x, room_low N x))
       ∙ ap (λ n. write n c d (top a) (top u) g (code b₂))
       (ap (λ n. over a c (over u c n)) (over_branch d v s b₁ z g m (λ x. omega (arith, all₂ x, room_low N x)))
-      ∙ ap (over a c) (sym (over_write u c _ s d (top v) (top z) g (code b₁) s-u))
-      ∙ sym (over_write a c _ s d (top v) (top z) g (code b₁) s-a))
+      ∙ ap (over a c) (sym (over_write u c _ s d (top v) (top z) g (code b₁) s_u))
+      ∙ sym (over_write a c _ s d (top v) (top z) g (code b₁) s_a))
       ∙ write_write _ s d (top v) (top z) g (code b₁) c d (top a) (top u) g (code b₂) s_c)
       ∙ write_write _ s d (top v) (top z) g (code b₁) g d c s c 0 s_g
       ∙ ap (λ n. write n s d (top v) (top z) g (code b₁)) (write_write _ c d (top a) (top u) g (code b₂) g d c s c 0 c_g))
@@ -202,40 +202,40 @@ module _ {N : ℕ} (p : Way) (d : Dir) (a : Tree) (c : ℕ) (bc : Bal) (u : Tree
       let P = above p in
       let A = top a in
       let Z = top z in
-      let s-p : times_w s p ≡ 0 = omega (arith, all₂ s, here s, room_low N s) in
-      let c-p : times_w c p ≡ 0 = omega (arith, all₂ c, here c, room_low N c) in
-      let g-p : times_w g p ≡ 0 = omega (arith, all₂ g, here g, room_low N g) in
-      let R-p : times_w R p ≡ 0 = omega (arith, all₂ R, top_full N u) in
-      let Q-p : times_w Q p ≡ 0 = omega (arith, all₂ Q, top_full N v) in
-      let R-a : times R a ≡ 0 = omega (arith, all₂ R, top_full N u) in
-      let Q-a : times Q a ≡ 0 = omega (arith, all₂ Q, top_full N v) in
-      let Q-u : times Q u ≡ 0 = omega (arith, all₂ Q, top_full N v) in
-      let s-R : s ≡ R → ⊥ = apart R s (omega (arith, all₂ R, top_full N u)) in
-      let c-R : c ≡ R → ⊥ = apart R c (omega (arith, all₂ R, top_full N u)) in
-      let g-R : g ≡ R → ⊥ = apart R g (omega (arith, all₂ R, top_full N u)) in
-      let s-Q : s ≡ Q → ⊥ = apart Q s (omega (arith, all₂ Q, top_full N v)) in
-      let c-Q : c ≡ Q → ⊥ = apart Q c (omega (arith, all₂ Q, top_full N v)) in
-      let g-Q : g ≡ Q → ⊥ = apart Q g (omega (arith, all₂ Q, top_full N v)) in (
-        pass p s _ _ Q parent s Q-p
-            (under _ _ s d c Z P (code bs) Q parent s s-Q
-            (under _ _ c d A g s (code bc) Q parent s c-Q
-            (under _ _ g d R Q c (code b) Q parent s g-Q
-            (over_past a c _ Q parent s Q-a ∙ ap (over a c) (over_past u g _ Q parent s Q-u ∙ ap (over u g) (over_up v g s (over z s m))))))),
-        pass p s _ _ s (child d) Q s-p (write_near _ s d c Z P (code bs) Q),
-        pass p s _ _ s balance v₁ s-p (write_bal _ s d Q Z P (code bs) v₁),
-        pass p s _ _ R parent c R-p
-            (under _ _ s d Q Z P v₁ R parent c s-R
-            (under _ _ c d A g s (code bc) R parent c c-R
-            (under _ _ g d R Q c (code b) R parent c g-R (over_past a c _ R parent c R-a ∙ ap (over a c) (over_up u g c _))))),
-        pass p s _ _ c (child (flip d)) R c-p (under _ _ s d Q Z P v₁ c (child (flip d)) R s_c (write_far _ c d A g s (code bc) R)),
-        pass p s _ _ c balance v₂ c-p (under _ _ s d Q Z P v₁ c balance v₂ s_c (write_bal _ c d A R s (code bc) v₂)),
-        pass p s _ _ g balance 0 g-p
+      let s_p : times_w s p ≡ 0 = omega (arith, all₂ s, here s, room_low N s) in
+      let c_p : times_w c p ≡ 0 = omega (arith, all₂ c, here c, room_low N c) in
+      let g_p : times_w g p ≡ 0 = omega (arith, all₂ g, here g, room_low N g) in
+      let R_p : times_w R p ≡ 0 = omega (arith, all₂ R, top_full N u) in
+      let Q_p : times_w Q p ≡ 0 = omega (arith, all₂ Q, top_full N v) in
+      let R_a : times R a ≡ 0 = omega (arith, all₂ R, top_full N u) in
+      let Q_a : times Q a ≡ 0 = omega (arith, all₂ Q, top_full N v) in
+      let Q_u : times Q u ≡ 0 = omega (arith, all₂ Q, top_full N v) in
+      let s_R : s ≡ R → ⊥ = apart R s (omega (arith, all₂ R, top_full N u)) in
+      let c_R : c ≡ R → ⊥ = apart R c (omega (arith, all₂ R, top_full N u)) in
+      let g_R : g ≡ R → ⊥ = apart R g (omega (arith, all₂ R, top_full N u)) in
+      let s_Q : s ≡ Q → ⊥ = apart Q s (omega (arith, all₂ Q, top_full N v)) in
+      let c_Q : c ≡ Q → ⊥ = apart Q c (omega (arith, all₂ Q, top_full N v)) in
+      let g_Q : g ≡ Q → ⊥ = apart Q g (omega (arith, all₂ Q, top_full N v)) in (
+        pass p s _ _ Q parent s Q_p
+            (under _ _ s d c Z P (code bs) Q parent s s_Q
+            (under _ _ c d A g s (code bc) Q parent s c_Q
+            (under _ _ g d R Q c (code b) Q parent s g_Q
+            (over_past a c _ Q parent s Q_a ∙ ap (over a c) (over_past u g _ Q parent s Q_u ∙ ap (over u g) (over_up v g s (over z s m))))))),
+        pass p s _ _ s (child d) Q s_p (write_near _ s d c Z P (code bs) Q),
+        pass p s _ _ s balance v₁ s_p (write_bal _ s d Q Z P (code bs) v₁),
+        pass p s _ _ R parent c R_p
+            (under _ _ s d Q Z P v₁ R parent c s_R
+            (under _ _ c d A g s (code bc) R parent c c_R
+            (under _ _ g d R Q c (code b) R parent c g_R (over_past a c _ R parent c R_a ∙ ap (over a c) (over_up u g c _))))),
+        pass p s _ _ c (child (flip d)) R c_p (under _ _ s d Q Z P v₁ c (child (flip d)) R s_c (write_far _ c d A g s (code bc) R)),
+        pass p s _ _ c balance v₂ c_p (under _ _ s d Q Z P v₁ c balance v₂ s_c (write_bal _ c d A R s (code bc) v₂)),
+        pass p s _ _ g balance 0 g_p
             (under _ _ s d Q Z P v₁ g balance 0 s_g (under _ _ c d A R s v₂ g balance 0 c_g (write_bal _ g d R Q c (code b) 0))),
-        pass p s _ _ c parent g c-p (under _ _ s d Q Z P v₁ c parent g s_c (write_up _ c d A R s v₂ g)),
-        pass p s _ _ g (child d) c g-p
+        pass p s _ _ c parent g c_p (under _ _ s d Q Z P v₁ c parent g s_c (write_up _ c d A R s v₂ g)),
+        pass p s _ _ g (child d) c g_p
             (under _ _ s d Q Z P v₁ g (child d) c s_g (under _ _ c d A R g v₂ g (child d) c c_g (write_near _ g d R Q c 0 c))),
-        pass p s _ _ s parent g s-p (write_up _ s d Q Z P v₁ g),
-        pass p s _ _ g (child (flip d)) s g-p
+        pass p s _ _ s parent g s_p (write_up _ s d Q Z P v₁ g),
+        pass p s _ _ g (child (flip d)) s g_p
             (under _ _ s d Q Z g v₁ g (child (flip d)) s s_g (under _ _ c d A R g v₂ g (child (flip d)) s c_g (write_far _ g d c Q c 0 s))),
       )
 

@@ -57,10 +57,10 @@ unlink_n k m t x =
     let r = get_n m x (child right) in
     let p = get_n m x parent in
     let e = side_n m p x in
-    let onlyRight = remove1_n k m t x p e r in
-    let onlyLeft = remove1_n k m t x p e l in
+    let only_right = remove1_n k m t x p e r in
+    let only_left = remove1_n k m t x p e l in
     let both = remove2_n k m t x p e in
-    cond (l == 0) onlyRight (cond (r == 0) onlyLeft both)
+    cond (l == 0) only_right (cond (r == 0) only_left both)
 
 unfoldable pub less_n : ℕ → ℕ
 less_n c = cond (c == 0) c (c - 1)

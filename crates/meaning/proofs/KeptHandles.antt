@@ -90,7 +90,7 @@ gone_for_ever {pool} {before = before} p slot stamp out here back =
     })
 
 -- A stamp handed out since the open mark that is no longer one of a live record is that of a record which the mark cannot bring back: it is refused
--- for ever, even before the mark is closed. (A record whose addition was rolled back: added-refused and added-refused-later of Demand3.)
+-- for ever, even before the mark is closed. (A record whose addition was rolled back: added_refused and added_refused_later of Demand3.)
 pub gone_since_mark : {pool request answers : List ℕ} {before : List Command} {mark : Command} {between rest : List Command} → Marked pool request answers before mark between rest
     → (slot stamp : ℕ) → (state_after pool before).pool.next ≤ stamp → let u = state_after pool (before ++ (mark ∷ between)) in stamp < u.pool.next
     → is_stale stamp (rec_at u.pool slot) ≡ true → RefusedFrom pool request answers (before ++ (mark ∷ between)) slot stamp

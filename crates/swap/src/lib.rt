@@ -6,19 +6,19 @@
 //
 // To be read beside avl/src/lib.rs of embed-collections-rs:
 //
-//     the Rust                                    here               specs/
-//     AvlNode::swap                               swap_n              Rust
-//     _remove, child != child_temp                deep_n              Rust
-//     _remove, child == child_temp                direct_n            Rust
-//     _remove, from self.count -= 1 on            leave_n             Rust
-//     _remove, two children                       rust_remove2        Rust
-//     _remove, with its callers' old_parent       rust_remove         Rust
+//     the Rust                               here              specs/
+//     AvlNode::swap                          swap_n            Rust
+//     _remove, child != child_temp           deep_n            Rust
+//     _remove, child == child_temp           direct_n          Rust
+//     _remove, from self.count -= 1 on       leave_n           Rust
+//     _remove, two children                  rust_remove2      Rust
+//     _remove, with its callers' old_parent  rust_remove       Rust
 //     and del_dir
-//     set_child2, set_child2_not_null             put_both            Node, of `tree`
-//     set_parent, set_child, set_balance          put_n               Node, of `tree`
-//     parent_direction, detach                    side_n, detach_n     Node, of `tree`
-//     bottom_child                                bottom_n            Walk, of `tree`
-//     _post_remove                                shrink_n            Remove, of `tree`
+//     set_child2, set_child2_not_null        put_both          Node, of `tree`
+//     set_parent, set_child, set_balance     put_n             Node, of `tree`
+//     parent_direction, detach               side_n, detach_n  Node, of `tree`
+//     bottom_child                           bottom_n          Walk, of `tree`
+//     _post_remove                           shrink_n          Remove, of `tree`
 //
 // That these definitions are the Rust's stores is by reading. On 64 bits the Rust keeps the side of a
 // record in its parent word; here it is worked out from the links, as the Rust does elsewhere.
@@ -30,6 +30,6 @@
 //     a record with two children in a tree                           Neighbour
 //     all cases, and where a record stands                           Removal
 //     a tree that fits has few enough levels                         Size
-//     the theorem: rust-removal-is-ours, in the words of Claim       Same
+//     the theorem: rust_removal_is_ours, in the words of Claim       Same
 //     two small removals, computed: a direct child and a deeper one  Cases
 #![tactic(auto)]

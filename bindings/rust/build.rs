@@ -35,7 +35,7 @@ fn main() {
     }
     println!(
         "cargo:warning={} is not there: run bindings/library of the project, which builds it on \
-         x86-64 and aarch64 Linux, or set ZIMATUNO_LIB_DIR to its folder",
+         x86-64 Linux, or set ZIMATUNO_LIB_DIR to its folder",
         archive.display()
     );
     // There is no such library: the error that says so quotes its name, with `--quiet` too. There

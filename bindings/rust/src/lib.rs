@@ -48,8 +48,8 @@
 //!
 //! # Where it runs
 //!
-//! `bindings/library` of the project builds `libzimatuno.a` on x86-64 and aarch64 Linux. Where
-//! it is not there this crate can be checked and documented, and nothing that calls it can be
+//! `bindings/library` of the project builds `libzimatuno.a` on x86-64 Linux, and on aarch64 Linux
+//! with a toolchain that runs there. Where it is not there this crate can be checked and documented, and nothing that calls it can be
 //! built: that is a compile error, with a warning that says what to run.
 
 #![deny(missing_docs, unsafe_code)]

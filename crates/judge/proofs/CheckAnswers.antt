@@ -68,7 +68,7 @@ module _ (b : List ℕ) {n t used next : ℕ} (r : Read b n t used next) {e : Bo
   pub bad_entries : e ≡ false → unsound ≡ judged b
   bad_entries h = refused b (sound_is b r.good (entries_are ∙ h) refl refl refl refl)
 
-  module _ (good-e : e ≡ true) {q : Judged} (qe : q ≡ counted used next 1 0 0 (rows n 32 (drop (32 + 8 * t) b))) where
+  module _ (good_e : e ≡ true) {q : Judged} (qe : q ≡ counted used next 1 0 0 (rows n 32 (drop (32 + 8 * t) b))) where
     rows_are : every (record_in used next) (rows n 32 (drop (32 + 8 * t) b)) ≡ every (record_in (text_used b) (next_stamp b)) (records b)
     unfolding records
     rows_are = simp (r.slots, r.trees, r.text, r.stamp) refl
@@ -80,7 +80,7 @@ module _ (b : List ℕ) {n t used next : ℕ} (r : Read b n t used next) {e : Bo
     all_ok = every (record_ok (n_trees b) (text_used b) (next_stamp b)) (records b)
 
     e_true : every entry_ok (entries b) ≡ true
-    e_true = entries_are ∙ good-e
+    e_true = entries_are ∙ good_e
 
     -- a record that is not good
     pub bad_records : q.ok ≡ false → unsound ≡ judged b
@@ -90,10 +90,10 @@ module _ (b : List ℕ) {n t used next : ℕ} (r : Read b n t used next) {e : Bo
         (λ k. absurd (false≢true (sym (records_are ∙ h) ∙ rows_weak (n_trees b) (text_used b) (next_stamp b) (records b) k))) (λ k. k))
         refl refl refl)
 
-    module _ (good-q : q.ok ≡ true) {z : Bool}
+    module _ (good_q : q.ok ≡ true) {z : Bool}
         (ze : z ≡ zeros (part b (32 + 8 * t + 32 * n + used) (length b - (32 + 8 * t + 32 * n) - used))) where
       r_true : every (record_in (text_used b) (next_stamp b)) (records b) ≡ true
-      r_true = records_are ∙ good-q
+      r_true = records_are ∙ good_q
 
       live_is : q.live ≡ count (λ r. not (eqb (tree_in r) 0)) (records b)
       unfolding records
@@ -152,5 +152,5 @@ module _ (b : List ℕ) {n t used next : ℕ} (r : Read b n t used next) {e : Bo
         unfolding judged live_count read
         all_good h =
             let told : q ≡ record { ok = true; live = live_count (read b); free = free_slot (read b) } =
-            simp (← good-q, live_read (records b), ← live_is, ← free_is) refl in
+            simp (← good_q, live_read (records b), ← live_is, ← free_is) refl in
             told ∙ simp (sound_rest ∙ h) refl

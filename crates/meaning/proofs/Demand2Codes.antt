@@ -37,9 +37,9 @@ use Rattle.meaning.proofs.Totals.{live_total}
 
 -- ---- tests in a row
 
-and-true : (b : Bool) → (b && true) ≡ b
-and-true true = refl
-and-true false = refl
+and_true : (b : Bool) → (b && true) ≡ b
+and_true true = refl
+and_true false = refl
 
 -- there is nothing to lie past where there is no record
 none_past : (d : Dir) (p : Pool) (k : ℕ) → past p d 0 k ≡ true
@@ -155,7 +155,7 @@ module _ (origin : Option Pool) (s : State) (c : Command) (g : GoodState origin 
       let f = end_seen e p g.pool k g.cursor (kind_ok (pick e 3 4) s c h) in
       ap₂ (λ (a b : Bool). not (a && b)) (past_seen e (standing k) c.key f.0)
       (ap (λ (x : ℕ). past p (flip e) x c.key) f.1 ∙ none_past (flip e) p c.key)
-      ∙ ap not (and-true (on_side e c.key (front (facing (flip e) (entries_of p (cursor_tree k))))))
+      ∙ ap not (and_true (on_side e c.key (front (facing (flip e) (entries_of p (cursor_tree k))))))
 
   end_tests : (e : Dir) → PutTests e (not_kind (pick e 3 4)) c.op
       → refusal s c ≡ cond (not_kind (pick e 3 4) s c) 12 (cond (bad_name s c) 13 (cond (not_past_end s c e) 18 (room s c)))

@@ -1,7 +1,7 @@
 //! A fuzz run: random and damaged pools, batches and sizes through the four functions of
 //! libzimatuno.a.
 //!
-//! To run, on x86-64 or aarch64 Linux, after `bindings/library`:
+//! To run, where `bindings/library` builds the library, after it:
 //!
 //! ```text
 //! cargo run --release -- [SEED [COUNT [FIRST]]]

@@ -4,9 +4,7 @@
  * stamp and a name. All work on a pool goes through the four functions below; none of them allocates,
  * blocks, keeps a pointer or any other state after it has returned, or calls back.
  *
- * Link libzimatuno.a, for x86-64 Linux. It needs nothing else but memcpy and memset. (The script
- * bindings/library also builds it for aarch64 Linux, in a way of this project's own, by a toolchain that runs
- * there.)
+ * Link libzimatuno.a, for x86-64 Linux. It needs nothing else but memcpy and memset.
  *
  * Numbers in the buffers are unsigned and little-endian, at the offsets given here, with no padding and
  * no alignment: a buffer may start at any address. Read and write their fields by zt_get_u16 to

@@ -1,9 +1,8 @@
 //! Links `libzimatuno.a`.
 //!
 //! The archive is looked for in the folder that the environment variable `ZIMATUNO_LIB_DIR`
-//! names, or else in the folder to which `bindings/library` writes it: `../../target/staticlib`
-//! for x86-64 Linux, `../../target/staticlib-aarch64` for aarch64 Linux. A relative folder counts
-//! from this crate's own.
+//! names, or else, for x86-64 Linux, in the folder to which `bindings/library` writes it:
+//! `../../target/staticlib`. A relative folder counts from this crate's own.
 //!
 //! Where the archive is not there, rustc, which is told to put it into the compiled crate, fails,
 //! and its error and a warning of cargo's say what to run. `cargo check`, `cargo clippy` and
@@ -20,7 +19,6 @@ fn main() {
     println!("cargo:rerun-if-env-changed=ZIMATUNO_LIB_DIR");
     let usual = match (&*variable("CARGO_CFG_TARGET_OS"), &*variable("CARGO_CFG_TARGET_ARCH")) {
         ("linux", "x86_64") => "../../target/staticlib".to_string(),
-        ("linux", "aarch64") => "../../target/staticlib-aarch64".to_string(),
         // `bindings/library` builds for no other target and writes to no such folder.
         _ => format!("../../target/staticlib-{}", variable("TARGET")),
     };

@@ -8,10 +8,7 @@ use std::path::PathBuf;
 
 fn main() {
     println!("cargo:rerun-if-env-changed=ZIMATUNO_LIB_DIR");
-    let usual = match &*env::var("CARGO_CFG_TARGET_ARCH").unwrap_or_default() {
-        "aarch64" => "../../target/staticlib-aarch64",
-        _ => "../../target/staticlib",
-    };
+    let usual = "../../target/staticlib";
     let given = env::var_os("ZIMATUNO_LIB_DIR").unwrap_or_else(|| usual.into());
     let folder = PathBuf::from(env::var_os("CARGO_MANIFEST_DIR").unwrap_or_default()).join(given);
     let archive = folder.join("libzimatuno.a");

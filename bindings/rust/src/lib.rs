@@ -48,9 +48,9 @@
 //!
 //! # Where it runs
 //!
-//! `bindings/library` of the project builds `libzimatuno.a` on x86-64 Linux, and on aarch64 Linux
-//! with a toolchain that runs there. Where it is not there this crate can be checked and documented, and nothing that calls it can be
-//! built: that is a compile error, with a warning that says what to run.
+//! `bindings/library` of the project builds `libzimatuno.a` on x86-64 Linux. Where it is not there
+//! this crate can be checked and documented, and nothing that calls it can be built: that is a
+//! compile error, with a warning that says what to run.
 
 #![deny(missing_docs, unsafe_code)]
 #![warn(rust_2018_idioms)]

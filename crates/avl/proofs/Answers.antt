@@ -1,9 +1,7 @@
 -- A tree answers as the sorted list of its slots: what a search finds, what an insertion and a removal leave. Over any strict order on slots.
 -- This is what the layers above cite. Assumes nothing.
-use mathlib.Core.List.{List, ◌∷◌, ◌++◌, append_assoc}
-use mathlib.Core.Path.{◌≡◌, sym, ap, ◌∙◌, subst}
-use Prim.Native.Nat.{ℕ, ◌≤◌, Ordering}
-use native.Mathlib.Omega.{arith}
+use Rattle.std.proofs.Common.{◌≡◌, ℕ, ◌≤◌, List, ◌∷◌, ◌++◌, sym, ap, ◌∙◌, subst, append_assoc, arith}
+use Prim.Native.Nat.{Ordering}
 use Rattle.avl.specs.Tree.{Dir, left, right, Bal, Tree, leaf, node, branch, top, list, size, Balanced}
 use Rattle.avl.specs.Way.{Way, root, plug, before, after}
 use Rattle.avl.specs.Edit.{beside, insert_here}

@@ -1,7 +1,5 @@
 -- What rotation, the climbs, insertion and removal do to a balanced tree: it stays balanced, and its height changes by one at most. Assumes nothing.
-use mathlib.Core.Path.{◌≡◌, refl, sym, ◌∙◌}
-use Prim.Native.Nat.{ℕ, suc, ◌+◌, ◌≤◌, max}
-use native.Mathlib.Omega.{arith}
+use Rattle.std.proofs.Common.{◌≡◌, ℕ, suc, ◌+◌, ◌≤◌, max, sym, refl, ◌∙◌, arith}
 use Rattle.avl.specs.Tree.{Dir, left, right, flip, pick, Bal, even, heavy, Lean, seen, Tree, leaf, node, branch, single}
 use Rattle.avl.specs.Tree.{height, tilt, Balanced, none}
 use Rattle.avl.specs.Way.{Way, root, step, plug}

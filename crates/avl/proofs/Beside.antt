@@ -1,8 +1,7 @@
 -- An insertion beside a record, where what is sought lies strictly between the record and its neighbour, is the one that a search finds.
 -- Over any strict order. Assumes nothing.
-use mathlib.Core.List.{List, [], ◌∷◌, ◌++◌, append_assoc}
-use mathlib.Core.Path.{◌≡◌, sym, ap, ◌∙◌, subst}
-use Prim.Native.Nat.{ℕ, Ordering}
+use Rattle.std.proofs.Common.{◌≡◌, ℕ, List, [], ◌∷◌, ◌++◌, sym, ap, ◌∙◌, subst, append_assoc}
+use Prim.Native.Nat.{Ordering}
 use Rattle.avl.specs.Tree.{Dir, left, right, flip, Bal, Tree, leaf, branch, list}
 use Rattle.avl.specs.Way.{Way, plug, before, after}
 use Rattle.avl.specs.Edit.{beside, insert_here}

@@ -1,12 +1,7 @@
 -- How few records a balanced tree of a height can hold, that some tree holds no more, and so how high a tree of 1,024 records can be: 14 levels.
 -- Assumes nothing.
-use mathlib.Core.List.{List}
-use mathlib.Core.Path.{◌≡◌, refl}
-use Prim.Native.Nat.{ℕ, zero, suc, ◌+◌, ◌-◌, ◌≤◌, max}
-use native.Mathlib.Decide.{dec_le}
-use native.Mathlib.Nat.{zero-add, suc-add}
-use native.Mathlib.Omega.{arith}
-use lib.ListN.{length, length-append}
+use Rattle.std.proofs.Common.{◌≡◌, ℕ, zero, suc, ◌+◌, ◌-◌, ◌≤◌, max, List, length, refl, suc-add, zero-add, arith, length-append}
+use Rattle.std.proofs.Math.Decide.{dec_le}
 use Rattle.avl.specs.Tree.{Dir, left, right, pick, Bal, heavy, Tree, leaf, node, single, list, size, height, tilt, Balanced, none, both}
 use Rattle.avl.proofs.Sides.{View, neither, this, other, view}
 

@@ -1,8 +1,7 @@
 -- The order by distinct u64 keys, as an instance of the laws over an order. Assumes nothing.
-use mathlib.Core.Path.{◌≡◌, refl, ap, subst}
+use Rattle.std.proofs.Common.{◌≡◌, ℕ, zero, suc, ◌<◌, refl, ap, subst, arith}
+use Prim.Native.Nat.{Ordering, compare}
 use Prim.Native.Nat.compare
-use Prim.Native.Nat.{ℕ, zero, suc, ◌<◌, Ordering, compare}
-use native.Mathlib.Omega.{arith}
 use Rattle.avl.specs.Tree.{Dir, left, right}
 use Rattle.avl.specs.Search.{toward}
 use Rattle.avl.specs.Order.{Order, From, Exact, Compares, LessKey, by_key}

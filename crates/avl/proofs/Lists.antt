@@ -1,8 +1,8 @@
 -- What rotation, the climbs and insertion do to the list of slots: nothing, nothing, one slot more at its place.
 -- For every tree, balanced or not. Assumes nothing.
-use mathlib.Core.List.{List, [], ◌∷◌, ◌++◌, append_assoc, append-nil, reverse, reverse-append, reverse-cons, reverse-reverse}
-use mathlib.Core.Path.{◌≡◌, refl, sym, ap, ◌∙◌}
-use Prim.Native.Nat.{ℕ}
+use Rattle.std.proofs.Common.{◌≡◌, ℕ, List, [], ◌∷◌, ◌++◌, reverse, sym, refl, ap, ◌∙◌, append_assoc, append-nil}
+use Rattle.std.proofs.lemmas.List.{reverse-append, reverse-reverse}
+use mathlib.Core.List.{reverse-cons}
 use Rattle.avl.specs.Tree.{Dir, left, right, flip, alike, Bal, even, heavy, Lean, level, near, far, seen, Tree, leaf, branch, single, list}
 use Rattle.avl.specs.Way.{Way, root, step, plug, before, after}
 use Rattle.avl.specs.Rotate.{Climb, stop, on, tree, then, child_bal, node_bal, double, turn, rotate, grown, shrunk, climb}

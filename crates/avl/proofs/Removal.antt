@@ -1,8 +1,7 @@
 -- What removal does to the list of slots: one slot less. Before it, the laws of the end of a tree on one side, where the neighbour stands that
 -- takes a removed record's place. For every tree, balanced or not. Assumes nothing.
-use mathlib.Core.List.{List, [], ◌∷◌, ◌++◌, append_assoc, append-nil, reverse, reverse-append}
-use mathlib.Core.Path.{◌≡◌, refl, sym, ap, ap₂, ◌∙◌, subst}
-use Prim.Native.Nat.{ℕ}
+use Rattle.std.proofs.Common.{◌≡◌, ℕ, List, [], ◌∷◌, ◌++◌, reverse, sym, refl, ap, ◌∙◌, subst, ap₂, append_assoc, append-nil}
+use Rattle.std.proofs.lemmas.List.{reverse-append}
 use Rattle.avl.specs.Tree.{Dir, left, right, flip, pick, alike, Bal, Tree, leaf, node, branch, list}
 use Rattle.avl.specs.Way.{Way, root, step, plug, before, after}
 use Rattle.avl.specs.Rotate.{shrunk, climb}

@@ -3,8 +3,7 @@
 -- itself leaves the same trees. Met are, to the left and to the right, at the root and below it: every step of both climbs; single and double
 -- rotations over each balance that can occur; removals with no child, one, and two for each balance, the neighbour direct and deeper. Then each
 -- kind of step above a rotation, and searches that change nothing. Assumes nothing.
-use mathlib.Core.List.{List, [], ◌∷◌}
-use mathlib.Core.Path.{◌≡◌, refl}
+use Rattle.std.proofs.Common.{◌≡◌, List, [], ◌∷◌, refl}
 use Rattle.avl.specs.Tree.{branch}
 use Rattle.avl.specs.Way.{plug}
 use Rattle.avl.specs.Rotate.{double, turn, rotate, grown, shrunk, climb}

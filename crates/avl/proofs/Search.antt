@@ -1,8 +1,6 @@
 -- Search: where it ends, what it finds, how much it compares, and that the place where it ends is the only one. Assumes nothing.
-use mathlib.Core.List.{[], ◌∷◌, ◌++◌}
-use mathlib.Core.Path.{◌≡◌, refl, sym, ap, ◌∙◌}
-use Prim.Native.Nat.{ℕ, suc, ◌+◌, ◌≤◌, max, Ordering}
-use native.Mathlib.Omega.{arith}
+use Rattle.std.proofs.Common.{◌≡◌, ℕ, suc, ◌+◌, ◌≤◌, max, [], ◌∷◌, ◌++◌, sym, refl, ap, ◌∙◌, arith}
+use Prim.Native.Nat.{Ordering}
 use Rattle.avl.specs.Tree.{Dir, left, right, flip, alike, Bal, Tree, leaf, node, branch, list, height}
 use Rattle.avl.specs.Way.{Way, root, step, plug, depth, before, after}
 use Rattle.avl.specs.Search.{Spot, three, toward, seek, entry, on_the_way, compared}

@@ -1,7 +1,5 @@
 -- Shapes as docs/REFERENCE.md writes them, and its cases P1 to P6 at the level of trees, as one table and one claim. Assumes nothing.
-use mathlib.Core.List.{List, [], ◌∷◌, ◌++◌}
-use mathlib.Core.Path.{◌≡◌, refl}
-use Prim.Native.Nat.{ℕ}
+use Rattle.std.proofs.Common.{◌≡◌, ℕ, List, [], ◌∷◌, ◌++◌, refl}
 use Rattle.avl.specs.Tree.{code, Tree, leaf, node, branch}
 use Rattle.avl.specs.Way.{plug}
 use Rattle.avl.specs.Rotate.{double, turn, rotate, grown, shrunk, climb}

@@ -1,8 +1,5 @@
 -- The small laws of sides, on which all others stand: here, and nowhere above, left and right are told apart. Assumes nothing.
-use mathlib.Core.List.{[], ◌∷◌, ◌++◌}
-use mathlib.Core.Path.{◌≡◌, refl, sym, ◌∙◌}
-use Prim.Native.Nat.{ℕ, suc, ◌+◌, max}
-use native.Mathlib.Omega.{arith}
+use Rattle.std.proofs.Common.{◌≡◌, ℕ, suc, ◌+◌, max, [], ◌∷◌, ◌++◌, sym, refl, ◌∙◌, arith}
 use Rattle.avl.specs.Tree.{Dir, left, right, flip, pick, alike, Bal, even, heavy, seen, Tree, leaf, node, branch, top, list, size, height, tilt, Balanced, both}
 use Rattle.avl.specs.Way.{Way, step}
 use Rattle.avl.specs.Rotate.{on, child_bal, node_bal, double, turn, rotate}

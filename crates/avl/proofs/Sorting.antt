@@ -1,7 +1,7 @@
 -- Sorted lists: their parts, and a slot put in or taken out. Over any strict order. Assumes nothing.
-use mathlib.Core.List.{List, [], ◌∷◌, ◌++◌, reverse, reverse-cons}
-use mathlib.Core.Path.{◌≡◌, refl, sym, subst}
-use Prim.Native.Nat.{ℕ, Ordering}
+use Rattle.std.proofs.Common.{◌≡◌, ℕ, List, [], ◌∷◌, ◌++◌, reverse, sym, refl, subst}
+use mathlib.Core.List.{reverse-cons}
+use Prim.Native.Nat.{Ordering}
 use Rattle.avl.specs.Tree.{left, right}
 use Rattle.avl.specs.Search.{three}
 use Rattle.avl.specs.Order.{All, nil, more, Sorted, rise, Order, Compares, into, out, sought}

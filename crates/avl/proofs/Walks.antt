@@ -1,7 +1,7 @@
 -- The walk to a neighbour, the ends of the list, and the empty places beside a record. Assumes nothing.
-use mathlib.Core.List.{List, [], ◌∷◌, ◌++◌, append_assoc, reverse, reverse-append, reverse-cons}
-use mathlib.Core.Path.{◌≡◌, refl, sym, ap, ap₂, ◌∙◌, subst}
-use Prim.Native.Nat.{ℕ}
+use Rattle.std.proofs.Common.{◌≡◌, ℕ, List, [], ◌∷◌, ◌++◌, reverse, sym, refl, ap, ◌∙◌, subst, ap₂, append_assoc}
+use Rattle.std.proofs.lemmas.List.{reverse-append}
+use mathlib.Core.List.{reverse-cons}
 use Rattle.avl.specs.Tree.{Dir, flip, pick, alike, Bal, Tree, leaf, node, branch, list}
 use Rattle.avl.specs.Way.{Way, root, step, plug, above, side, before, after}
 use Rattle.avl.specs.Edit.{edge, beside, insert_here}

@@ -1,7 +1,7 @@
 -- The outside meaning: lists sorted by a strict order on slots, and what a search, an insertion and a removal are on such a list.
 -- Assumes nothing.
-use Rattle.std.specs.Prelude.{List, [], ◌∷◌, ◌≡◌}
-use Prim.Native.Nat.{ℕ, ◌<◌, Ordering, compare}
+use Rattle.std.specs.Prelude.{◌≡◌, ℕ, ◌<◌, List, [], ◌∷◌}
+use Prim.Native.Nat.{Ordering, compare}
 use Rattle.avl.specs.Tree.{Dir, left, right}
 use Rattle.avl.specs.Search.{three, toward}
 

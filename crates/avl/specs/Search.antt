@@ -1,5 +1,6 @@
 -- The search of `get`, `entry`, `add` and `remove_by_key`, and the walk to a neighbour. Assumes nothing.
-use Prim.Native.Nat.{ℕ, suc, ◌+◌, Ordering}
+use Rattle.std.specs.Prelude.{ℕ, suc, ◌+◌}
+use Prim.Native.Nat.{Ordering}
 use Rattle.avl.specs.Tree.{Dir, left, right, flip, alike, Tree, leaf, node, top}
 use Rattle.avl.specs.Way.{Way, root, step, depth}
 use Rattle.avl.specs.Edit.{insert, remove, bottom_child}

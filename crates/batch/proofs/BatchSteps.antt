@@ -1,30 +1,28 @@
 -- The steps of the door `batch`: its three refusals, the places that it cuts at, and a batch that is carried out. Assumes nothing.
-use mathlib.Core.Bool.{Bool, true, false, not, cond}
-use mathlib.Core.List.{List, [], ◌++◌, append-nil}
-use mathlib.Core.Path.{◌≡◌, sym, ap, ap₂, ◌∙◌}
-use Prim.Native.Nat.{ℕ, ◌+◌, ◌*◌, ◌-◌, ◌≤◌, ◌<◌}
-use native.Mathlib.Omega.{arith}
-use lib.ListN.{length, length-drop, take, drop}
-use lib.Seq.{take-length, drop-length}
-use borrow.Author.Tests.{not-true, not-false}
+use Rattle.std.specs.Prelude.{Ok, Err, Result}
+use Rattle.std.proofs.Common.{◌≡◌, ℕ, ◌+◌, ◌-◌, ◌*◌, ◌<◌, ◌≤◌, Bool, true, false, cond, List, [], ◌++◌, length, take, drop, sym, ap, ◌∙◌, ap₂, append-nil, arith, length-drop}
+use Rattle.std.proofs.Math.Seq.{take-length, drop-length}
 use Rattle.fields.specs.Number.{get_le, Bytes}
+use Rattle.format.specs.Refusal.{number, code}
+use Rattle.format.specs.declared.refusal.Refusal.{Refusal}
+use Rattle.format.specs.declared.refusal.Refusal.TheVariants.{Damaged, BadBatch, BadOut}
 use Rattle.meaning.specs.Pool.{n_trees, live_count, read}
 use Rattle.meaning.specs.Change.{free_slot}
 use Rattle.meaning.specs.Sound.{sound}
-use Rattle.meaning.specs.Doors.{n_commands, batch_ok, Outcome, carried_out, batch}
+use Rattle.meaning.specs.Doors.{check, n_commands, batch_ok, Outcome, carried_out, batch}
 use Rattle.meaning.proofs.Clauses.{clauses}
-use Rattle.judge.specs.Rows.{unsound, judged}
-use Rattle.judge.proofs.CheckAnswers.{judged_ok}
-use Rattle.judge.specs.declared.verdict.Judged.{Judged}
+use Rattle.judge.specs.Rows.{judged}
+use Rattle.judge.proofs.CheckAnswers.{judged_ok, judged_number}
+use Rattle.judge.specs.declared.verdict.Census.{Census}
 use Rattle.slots.specs.Head.{load_n, store_n}
 use Rattle.slots.specs.declared.head.Head.{Head}
+use Rattle.batch.specs.Answered.{answered}
 use Rattle.batch.specs.Run.{ran_n}
-use Rattle.batch.specs.declared.door.Outcome.{Outcome as Given}
 use Rattle.batch.proofs.Batching.{order_is, batch_bad, batch_short, batch_unsound, batch_done, batch_image}
 
 -- what the door returns, with the lent bytes as they are then
-abbrev pub outcome : Given → List ℕ → List ℕ → Outcome
-outcome r p a = record { code = r.code; answered = r.answered; pool = p; answers = a }
+abbrev pub outcome : Result ℕ Refusal → List ℕ → List ℕ → Outcome
+outcome r p a = record { code = code r; answered = answered r; pool = p; answers = a }
 
 -- all from a place on
 rest_of : (at : ℕ) (l : List ℕ) → at ≤ length l → take (length l - at) (drop at l) ≡ drop at l
@@ -58,9 +56,9 @@ module _ (w : List ℕ) {t : Bool} (e1 : t ≡ batch_ok w) (h1 : t ≡ true) {C 
 
 -- ---- the pool
 
-module _ (p : List ℕ) {j : Judged} (e3 : j ≡ judged p) (h3 : not j.ok ≡ false) {h : Head} (e4 : h ≡ load_n p j.live j.free) where
+module _ (p : List ℕ) {k : Census} (e3 : ◌≡◌ {A = Result Census Refusal} (Ok k) (judged p)) {h : Head} (e4 : h ≡ load_n p k.live k.free) where
   is_sound : sound p ≡ true
-  is_sound = sym (judged_ok p e3) ∙ not-false j.ok h3
+  is_sound = sym (judged_ok p e3)
 
   trees_are : h.numbers.trees ≡ n_trees p
   unfolding load_n n_trees
@@ -70,38 +68,44 @@ module _ (p : List ℕ) {j : Judged} (e3 : j ≡ judged p) (h3 : not j.ok ≡ fa
   pub records_fit : 32 + 8 * h.numbers.trees ≤ length p
   records_fit = omega (arith, trees_are, (clauses p is_sound).head.length_is)
 
-  head_is : h ≡ load_n p (live_count (read p)) (free_slot (read p))
+  census_is : k ≡ record { live = live_count (read p); free = free_slot (read p) }
   unfolding judged
-  head_is =
-      let known : Judged = record { ok = true; live = live_count (read p); free = free_slot (read p) } in
-      e4 ∙ ap (λ (i : Judged). load_n p i.live i.free) (e3 ∙ ap (λ (s : Bool). cond s known unsound) is_sound)
+  census_is =
+      let known : Census = record { live = live_count (read p); free = free_slot (read p) } in
+      let same : ◌≡◌ {A = Result Census Refusal} (Ok k) (Ok known) = e3 ∙ ap (λ (s : Bool). cond {A = Result Census Refusal} s (Ok known) (Err Damaged)) is_sound in
+      cc
+
+  head_is : h ≡ load_n p (live_count (read p)) (free_slot (read p))
+  head_is = e4 ∙ ap (λ (i : Census). load_n p i.live i.free) census_is
 
 -- ---- the door
 
 module _ (p w a : List ℕ) {t : Bool} (e1 : t ≡ batch_ok w) where
   -- BAD_BATCH
-  pub bad_header : t ≡ false → {r : Given} → r ≡ record { code = 2; answered = 0 } → outcome r p a ≡ batch p w a
-  bad_header h i = ap (λ (r : Given). outcome r p a) i ∙ sym (batch_bad p w a (sym e1 ∙ h))
+  pub bad_header : t ≡ false → outcome (Err BadBatch) p a ≡ batch p w a
+  bad_header h = sym (batch_bad p w a (sym e1 ∙ h))
 
   module _ (h1 : t ≡ true) {C : ℕ} (e2 : C ≡ get_le 2 w 2) where
     -- BAD_OUT
-    pub no_room : length a < 24 * C → {r : Given} → r ≡ record { code = 3; answered = 0 } → outcome r p a ≡ batch p w a
+    pub no_room : length a < 24 * C → outcome (Err BadOut) p a ≡ batch p w a
     unfolding n_commands
-    no_room s i = ap (λ (r : Given). outcome r p a) i ∙ sym (batch_short p w a (in_order w e1 h1 e2) (omega (arith, e2, s)))
+    no_room s = sym (batch_short p w a (in_order w e1 h1 e2) (omega (arith, e2, s)))
 
-    module _ (h2 : 24 * C ≤ length a) {j : Judged} (e3 : j ≡ judged p) where
+    module _ (h2 : 24 * C ≤ length a) where
       room : 24 * n_commands w ≤ length a
       unfolding n_commands
       room = omega (arith, e2, h2)
 
       -- DAMAGED
-      pub not_sound : not j.ok ≡ true → {r : Given} → r ≡ record { code = 1; answered = 0 } → outcome r p a ≡ batch p w a
-      not_sound h i =
-          ap (λ (r : Given). outcome r p a) i
-          ∙ sym (batch_unsound p w a (in_order w e1 h1 e2) room (sym (judged_ok p e3) ∙ not-true j.ok h))
+      pub not_sound : (why : Refusal) → ◌≡◌ {A = Result Census Refusal} (Err why) (judged p) → outcome (Err why) p a ≡ batch p w a
+      unfolding check
+      not_sound why e =
+          let unsound : sound p ≡ false = sym (judged_ok p e) in
+          let one : number why ≡ 1 = judged_number p e ∙ ap (λ (s : Bool). cond s 0 1) unsound in
+          ap (λ (n : ℕ). of_parts n 0 p a) one ∙ sym (batch_unsound p w a (in_order w e1 h1 e2) room unsound)
 
       -- The commands carried out, and the head stored.
-      module _ (h3 : not j.ok ≡ false) {h : Head} (e4 : h ≡ load_n p j.live j.free) where
+      module _ {k : Census} (e3 : ◌≡◌ {A = Result Census Refusal} (Ok k) (judged p)) {h : Head} (e4 : h ≡ load_n p k.live k.free) where
         abbrev at : ℕ
         at = 32 + 8 * h.numbers.trees
 
@@ -114,18 +118,18 @@ module _ (p w a : List ℕ) {t : Bool} (e1 : t ≡ batch_ok w) where
         unfolding n_commands
         ran_all ran =
             ran
-            ∙ ap₂ (λ (x y : List ℕ). ran_n C x w y a h) (rest_of at p (records_fit p e3 h3 e4)) (rest_of from w (names_fit w e1 h1 e2))
+            ∙ ap₂ (λ (x y : List ℕ). ran_n C x w y a h) (rest_of at p (records_fit p e3 e4)) (rest_of from w (names_fit w e1 h1 e2))
             ∙ ap (λ (n : ℕ). ran_n n (drop at p) w (drop (16 + 24 * n) w) a h) e2
-            ∙ ap₂ (λ (i : ℕ) (x : Head). ran_n (n_commands w) (drop (32 + 8 * i) p) w (drop (16 + 24 * n_commands w) w) a x) (trees_are p e3 h3 e4)
-            (head_is p e3 h3 e4)
+            ∙ ap₂ (λ (i : ℕ) (x : Head). ran_n (n_commands w) (drop (32 + 8 * i) p) w (drop (16 + 24 * n_commands w) w) a x) (trees_are p e3 e4)
+            (head_is p e3 e4)
 
         stored_all : (m b : List ℕ) (g : Head) → b ≡ store_n (take at p ++ (m ++ drop (length p - at) (drop at p))) g
             → b ≡ store_n (take (32 + 8 * n_trees p) p ++ m) g
         stored_all m b g stored =
             stored
             ∙ ap (λ (l : List ℕ). store_n (take at p ++ l) g)
-            (ap (λ (l : List ℕ). m ++ l) (nothing_left at p (records_fit p e3 h3 e4)) ∙ append-nil m)
-            ∙ ap (λ (i : ℕ). store_n (take (32 + 8 * i) p ++ m) g) (trees_are p e3 h3 e4)
+            (ap (λ (l : List ℕ). m ++ l) (nothing_left at p (records_fit p e3 e4)) ∙ append-nil m)
+            ∙ ap (λ (i : ℕ). store_n (take (32 + 8 * i) p ++ m) g) (trees_are p e3 e4)
 
         pub carried_out_lem : Bytes p → Bytes w → {m o b : List ℕ} {g : Head}
             → ◌≡◌ {A = List ℕ × (List ℕ × Head)} (m, (o, g))
@@ -135,7 +139,7 @@ module _ (p w a : List ℕ) {t : Bool} (e1 : t ≡ batch_ok w) where
         unfolding n_commands carried_out
         carried_out_lem pb wb {m} {o} {b} {g} ran stored =
             let q = batch p w a in
-            let sound_is = is_sound p e3 h3 e4 in
+            let sound_is = is_sound p e3 e4 in
             let order = in_order w e1 h1 e2 in
             let left : ◌≡◌ {A = List ℕ × List ℕ} (b, o) (q.pool, q.answers) =
             ap (λ (l : List ℕ). (l, o)) (stored_all m b g stored)

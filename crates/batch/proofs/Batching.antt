@@ -1,15 +1,8 @@
 -- A batch as a whole: its commands as they stand in its bytes, and what it leaves of pool and answers, stored, is what the door says.
 -- Assumes nothing.
-use mathlib.Core.Bool.{true, false, cond, ◌&&◌}
-use mathlib.Core.List.{List, [], ◌∷◌, ◌++◌, map}
-use mathlib.Core.Option.{none}
-use mathlib.Core.Path.{◌≡◌, refl, sym, ap, ap₂, ◌∙◌, subst}
-use Prim.Native.Nat.{ℕ, zero, suc, ◌+◌, ◌*◌, ◌≤◌, ◌<◌}
-use native.Mathlib.Omega.{arith}
-use lib.Dec.{eqb, leb}
-use lib.ListN.{length, take, drop, replicate, length-replicate}
-use lib.Seq.{drop-drop}
-use borrow.Author.Tests.{eqb-true, leb-true, lt-ltb, le-ltb}
+use Rattle.std.proofs.Common.{◌≡◌, ℕ, zero, suc, ◌+◌, ◌*◌, ◌<◌, ◌≤◌, true, false, cond, ◌&&◌, eqb, leb, List, [], ◌∷◌, ◌++◌, map, length, take, drop, replicate, sym, refl, ap, ◌∙◌, subst, ap₂, arith, drop-drop, le-ltb, lt-ltb, eqb-true, leb-true}
+use Rattle.std.proofs.Math.Option.{none}
+use Rattle.std.proofs.lemmas.List.{length-replicate}
 use Rattle.fields.specs.Number.{get_le, Bytes}
 use Rattle.fields.specs.Part.{part}
 use Rattle.meaning.specs.Layout.{rows, within, span}

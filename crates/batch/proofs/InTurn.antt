@@ -1,11 +1,7 @@
 -- A command in its turn, with what it asks of the journal, does what `meaning` says: every op, a rollback too. Assumes nothing.
-use mathlib.Core.Bool.{true, false, cond}
-use mathlib.Core.List.{List}
-use mathlib.Core.Option.{Option, none, some}
-use mathlib.Core.Path.{◌≡◌, refl, sym, ap, ◌∙◌, subst}
-use Prim.Native.Nat.{ℕ}
-use native.Mathlib.Decide.{ℕ_discrete}
-use lib.Dec.{eqb}
+use Rattle.std.proofs.Common.{◌≡◌, ℕ, true, false, cond, eqb, List, sym, refl, ap, ◌∙◌, subst}
+use Rattle.std.proofs.Math.Decide.{ℕ_discrete}
+use Rattle.std.proofs.Math.Option.{Option, none, some}
 use Rattle.meaning.specs.Layout.{within}
 use Rattle.meaning.specs.Pool.{Pool}
 use Rattle.meaning.specs.Change.{Mark, rollback}
@@ -23,7 +19,7 @@ use Rattle.cursor.specs.declared.command.Command.{Command}
 use Rattle.ops.specs.Ops.{settled_n, rollback_n}
 use Rattle.ops.specs.Perform.{settles, settle_n, Out, settled_of, at_op, perform_n}
 use Rattle.ops.specs.Image.{mark_of, work_in, meant_by}
-use Rattle.ops.specs.declared.mark.Settled.{Settled}
+use Rattle.ops.specs.Given.{Settled}
 use Rattle.ops.proofs.Agreeing.{Agrees, shut}
 use Rattle.ops.proofs.Markings.{rollback_refused, rollback_done}
 use Rattle.ops.proofs.Performing.{perform_agrees}

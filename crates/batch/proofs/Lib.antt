@@ -3,7 +3,7 @@ pub mod OpKinds
 pub mod InTurn
 pub mod Running
 pub mod Batching
-pub mod TableSteps
+pub mod SessionSteps
 pub mod RunSteps
-pub mod DoorSteps
 pub mod BatchSteps
+pub mod OneToOne

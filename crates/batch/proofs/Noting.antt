@@ -1,12 +1,6 @@
 -- The journal keeps the changes of an open mark: from one command to the next, whatever the command was. Assumes nothing.
-use mathlib.Core.Bool.{Bool, true, false, cond}
-use mathlib.Core.List.{List}
-use mathlib.Core.Option.{Option, none, some}
-use mathlib.Core.Path.{◌≡◌, refl, ap, ◌∙◌, subst}
-use Prim.Native.Nat.{ℕ, suc, ◌+◌, ◌<◌}
-use native.Mathlib.Omega.{arith}
-use lib.Dec.{eqb}
-use lib.ListN.{length, set, length-set}
+use Rattle.std.proofs.Common.{◌≡◌, ℕ, suc, ◌+◌, ◌<◌, Bool, true, false, cond, eqb, List, length, set, refl, ap, ◌∙◌, subst, arith, length-set}
+use Rattle.std.proofs.Math.Option.{Option, none, some}
 use Rattle.meaning.specs.Layout.{within}
 use Rattle.meaning.specs.Pool.{Rec}
 use Rattle.meaning.specs.Change.{Change, added, removed, Mark, noted as journalled}
@@ -14,8 +8,9 @@ use Rattle.meaning.specs.Command.{is_open}
 use Rattle.meaning.proofs.Tables.{never}
 use Rattle.slots.specs.Image.{record_of}
 use Rattle.slots.specs.declared.record.Record.{Record}
-use Rattle.journal.specs.Journal.{rec_of, change_of, changes_in}
+use Rattle.journal.specs.Journal.{rec_of, change_at, change_of, changes_in}
 use Rattle.journal.specs.declared.Entry.{Entry}
+use Rattle.journal.specs.declared.Noted.TheVariants.{Added, Removed}
 use Rattle.journal.proofs.Changes.{longer}
 use Rattle.cursor.specs.Work.{noted, Did}
 use Rattle.ops.proofs.Agreeing.{Marks, same, shut, opens, adds, removes}
@@ -70,14 +65,14 @@ back x r = refl
 -- The journal after a command keeps the changes of the mark after it.
 pub marks_notes : {j : Option Mark} (n : ℕ) (es : List Entry) (d : Did) {k : Option Mark} → Marks d j k → n < length es → Notes j n es
     → Notes k (count_n n d.change) (noted_n es n d)
-unfolding count_n noted within change_of changes_in
+unfolding count_n noted within change_at changes_in
 marks_notes n es d (same i) h l = rw (count_at n es d 0 i, noted_at n es d 0 i) l
 marks_notes n es d shut h l = closed
 marks_notes n es d (opens i e) h l = rw (count_at n es d 3 i, noted_at n es d 3 i) (kept e)
 marks_notes {j} n es d (adds i) h l =
     rw (count_at n es d 1 i, noted_at n es d 1 i)
-    (notes_more n es (entry_of d) (added d.slot) (ap (λ (c : ℕ). cond (eqb c 1) (added d.slot) (removed d.slot (rec_of d.rec))) i) h l)
+    (notes_more n es (entry_of d) (added d.slot) (ap (λ (c : ℕ). change_at d.slot (cond (eqb c 1) Added (Removed d.rec))) i) h l)
 marks_notes n es d (removes r i v) h l =
     rw (count_at n es d 2 i, noted_at n es d 2 i)
     (notes_more n es (entry_of d) (removed d.slot r)
-    (ap (λ (c : ℕ). cond (eqb c 1) (added d.slot) (removed d.slot (rec_of d.rec))) i ∙ ap (λ (x : Record). removed d.slot (rec_of x)) v ∙ back d.slot r) h l)
+    (ap (λ (c : ℕ). change_at d.slot (cond (eqb c 1) Added (Removed d.rec))) i ∙ ap (λ (x : Record). removed d.slot (rec_of x)) v ∙ back d.slot r) h l)

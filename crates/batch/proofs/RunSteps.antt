@@ -1,86 +1,82 @@
--- The commands of a batch turn by turn, as the loop has them. Assumes nothing.
-use mathlib.Core.Bool.{Bool, true, false, cond}
-use mathlib.Core.List.{List}
-use mathlib.Core.Path.{◌≡◌, refl, ap, ap₂, ◌∙◌}
-use Prim.Native.Nat.{ℕ, suc, ◌+◌, ◌*◌, ◌-◌, ◌<◌, ◌≤◌}
-use native.Mathlib.Omega.{arith}
-use borrow.Author.Tests.{eq-eqb, ne_eqb}
-use lib.Dec.{eqb}
-use lib.ListN.{length, set, replicate}
-use Rattle.tree.specs.declared.node.AvlTree.{AvlTree}
+-- The commands of a batch turn by turn, as the loop has them. The code's journal has its changes and nothing else; the model's has them as its
+-- first entries. Assumes nothing.
+use Rattle.std.proofs.Common.{◌≡◌, ℕ, suc, ◌+◌, ◌-◌, ◌*◌, ◌<◌, ◌≤◌, cond, eqb, List, [], ◌∷◌, ◌++◌, length, take, drop, set, replicate, sym, refl, ap, ◌∙◌, subst, ap₂, arith, length-append, take-suc-set, eqb-true}
+use Rattle.std.proofs.Math.Nat.{sub-zero}
+use Rattle.std.proofs.Math.Numerals.{add-one}
+use Rattle.std.proofs.lemmas.Bool.{eqb-false}
+use Rattle.std.proofs.lemmas.List.{length-replicate, take-append-drop, length-take-le}
 use Rattle.meaning.specs.Layout.{within}
-use Rattle.meaning.specs.Cursor.{kind, cursor_tree}
-use Rattle.slots.specs.Record.{no_record, record_n}
-use Rattle.slots.specs.Head.{tree_n, set_tree_n}
-use Rattle.slots.specs.Answer.{put_answer_n}
-use Rattle.slots.specs.Change.{Image}
+use Rattle.meaning.proofs.Clauses.{within_is}
+use Rattle.meaning.proofs.Facts.{test}
+use Rattle.slots.specs.Change.{Image, cut_n}
 use Rattle.slots.specs.declared.head.Head.{Head}
-use Rattle.journal.specs.Journal.{no_entry, roll_back_n}
+use Rattle.slots.proofs.RecordSteps.{answer_stored}
+use Rattle.journal.specs.Journal.{no_entry, undo_n, roll_back_n}
 use Rattle.journal.specs.declared.Entry.{Entry}
-use Rattle.cursor.specs.Tests.{command_n, aimed_n}
-use Rattle.cursor.specs.Work.{no_mark, Work, head_of, work_of, begun_n, seen_n, noted, table_after, stepped, Did, sight_of, step_rec, step_of}
+use Rattle.journal.proofs.JournalSteps.{undo_front}
+use Rattle.cursor.specs.Given.{Mark}
+use Rattle.cursor.specs.Tests.{command_n}
+use Rattle.cursor.specs.Work.{no_mark, Work, begun_n, noted, Did}
 use Rattle.cursor.specs.declared.command.Command.{Command}
-use Rattle.cursor.specs.declared.result.Sight.{Sight}
-use Rattle.cursor.specs.declared.result.Step.{Step}
-use Rattle.cursor.specs.declared.state.Batch.{Batch}
-use Rattle.cursor.specs.declared.state.Mark.{Mark}
-use Rattle.ops.specs.Ending.{Changed}
-use Rattle.ops.specs.Ops.{settled_n, mark_n, rollback_n, commit_n, reset_n}
-use Rattle.ops.specs.Perform.{alters, settles, see_n, alter_n, settle_n, Out, settled_of, at_op}
-use Rattle.ops.specs.declared.mark.Settled.{Settled}
-use Rattle.batch.specs.Run.{entry_n, count_n, noted_n, settle_all_n, end_n, turn_n, answered_n, Ran, run_n, ran_n}
-use Rattle.batch.proofs.OpKinds.{alters_settles}
+use Rattle.ops.specs.Perform.{Out}
+use Rattle.batch.specs.Run.{entry_of, count_n, noted_n, settle_all_n, end_n, turn_n, answered_n, Ran, run_n, ran_n}
+use Rattle.batch.specs.Turn.{session_work, journal_n, Left, left_in, left_n, turned}
+use Rattle.batch.specs.declared.session.Session.{Session}
+use Rattle.batch.proofs.Noting.{noted_length}
+use Rattle.batch.proofs.Running.{count_low}
 
--- ---- what is journalled by an op that settles a mark or resets
+-- ---- the first n entries of a journal are all that counts
 
-either_settled : (b : Bool) (x y : Settled) → noted x.change ≡ false → noted y.change ≡ false → noted (cond b x y).change ≡ false
-either_settled true x y h k = h
-either_settled false x y h k = k
+module _ (n : ℕ) (es : List Entry) (long : n ≤ length es) where
+  undo_same : (m : List ℕ) (h : Head) → undo_n n m h es ≡ undo_n n m h (take n es)
+  undo_same m h =
+      ap (undo_n n m h) (sym (take-append-drop n es))
+      ∙ undo_front n m h (take n es) (drop n es) (omega (arith, length-take-le n es long))
 
-either_left : (b : Bool) (x y : List ℕ × Settled) → noted x.1.change ≡ false → noted y.1.change ≡ false → noted (cond b x y).1.change ≡ false
-either_left true x y h k = h
-either_left false x y h k = k
+  back_same : (m : List ℕ) (h : Head) (used : ℕ) → roll_back_n n m h used es ≡ roll_back_n n m h used (take n es)
+  unfolding roll_back_n
+  back_same m h used = ap (λ (o : Image). cut_n o.0 o.1 used) (undo_same m h)
 
--- It is no change of a record.
-settle_unnoted : (m : List ℕ) (h : Head) (k : Mark) (es : List Entry) (n op : ℕ) → noted (settle_all_n m h k es n op).1.change ≡ false
-unfolding settle_all_n settle_n mark_n rollback_n commit_n reset_n noted within
-settle_unnoted m h k es n op =
-    either_left (eqb (settle_n m h k op).1.change 4) _ _ refl
-    (either_left (eqb op 26) _ _ (either_settled k.is_open _ _ refl refl)
-    (either_left (eqb op 27) _ _ (either_settled k.is_open _ _ refl refl)
-    (either_left (eqb op 28) _ _ (either_settled k.is_open _ _ refl refl) (either_left (eqb op 29) _ _ (either_left k.is_open _ _ refl refl) refl))))
+  turn_same : (m names : List ℕ) (w : Work) (c : Command) → turn_n m names w es n c ≡ turn_n m names w (take n es) n c
+  unfolding turn_n settle_all_n
+  turn_same m names w c = simp (back_same)
 
--- ---- a rollback that is asked for, and one at the end; g is the head as the code has it
-
-module _ (m : List ℕ) (h : Head) (k : Mark) (es : List Entry) (n op : ℕ) {g : Head} (i : g ≡ h) {m1 : List ℕ} {r : Settled}
-    (e : ◌≡◌ {A = List ℕ × Settled} (m1, r) (settle_n m g k op)) where
-  as_head : ◌≡◌ {A = List ℕ × Settled} (m1, r) (settle_n m h k op)
-  as_head = e ∙ ap (λ (x : Head). settle_n m x k op) i
-
-  -- None is.
-  pub settle_kept : (r.change ≡ 4 → ⊥) → ◌≡◌ {A = List ℕ × Settled} (m1, r) (settle_all_n m h k es n op)
-  unfolding settle_all_n
-  settle_kept z = simp (← as_head, ne_eqb r.change 4 z)
-
-  -- It is done.
-  pub settle_undone : r.change ≡ 4 → {m2 : List ℕ} {left : Head} → ◌≡◌ {A = Image} (m2, left) (roll_back_n n m1 g k.used es)
-      → ◌≡◌ {A = List ℕ × Settled} (m2, settled_n left no_mark 0 3) (settle_all_n m h k es n op)
-  unfolding settle_all_n
-  settle_undone z f =
-      let back = f ∙ ap (λ (x : Head). roll_back_n n m1 x k.used es) i in
-      simp (← as_head, eq-eqb r.change 4 z, ← back)
-
-module _ (m : List ℕ) (h : Head) (k : Mark) (es : List Entry) (n : ℕ) {g : Head} (i : g ≡ h) where
-  -- A mark is open.
-  pub end_open : k.is_open ≡ true → {m1 : List ℕ} {left : Head} → ◌≡◌ {A = Image} (m1, left) (roll_back_n n m g k.used es)
-      → ◌≡◌ {A = Image} (m1, left) (end_n m h k es n)
+  end_same : (m : List ℕ) (h : Head) (k : Mark) → end_n m h k es n ≡ end_n m h k (take n es) n
   unfolding end_n
-  end_open t e = simp t (e ∙ ap (λ (x : Head). roll_back_n n m x k.used es) i)
+  end_same m h k = simp (back_same)
 
-  -- None is.
-  pub end_shut : k.is_open ≡ false → ◌≡◌ {A = Image} (m, g) (end_n m h k es n)
-  unfolding end_n
-  end_shut t = simp t (ap (λ (x : Head). (m, x)) i)
+-- ---- the journal after a command
+
+module _ (n : ℕ) (es : List Entry) (there : n < length es) (items : List Entry) (size : length items ≡ n) (holds : items ≡ take n es) (e : Entry) where
+  abbrev after : ℕ → List Entry
+  after x = cond (noted x) (items ++ e ∷ []) (cond (eqb x 3) [] items)
+
+  abbrev stored : ℕ → List Entry
+  stored x = cond (noted x) (set es n e) es
+
+  abbrev Holds : ℕ → Type 0
+  Holds x = (length (after x) ≡ count_n n x) × (after x ≡ take (count_n n x) (stored x))
+
+  more : (length (items ++ e ∷ []) ≡ n + 1) × (items ++ e ∷ [] ≡ take (n + 1) (set es n e))
+  more = (
+    omega (arith, length-append items (e ∷ []), size),
+    ap (λ (l : List Entry). l ++ e ∷ []) holds ∙ sym (take-suc-set es n e there) ∙ ap (λ (k : ℕ). take k (set es n e)) (sym (add-one n)),
+  )
+
+  journal_at : (x : ℕ) → Holds x
+  unfolding count_n noted within
+  journal_at x =
+      test (eqb x 1) (λ t. subst Holds (sym (eqb-true x 1 t)) more)
+      (λ a. test (eqb x 2) (λ t. subst Holds (sym (eqb-true x 2 t)) more)
+      (λ b. test (eqb x 3) (λ t. subst Holds (sym (eqb-true x 3 t)) (refl, refl))
+      (λ c. test (noted x)
+      (λ t. let r = within_is 1 2 x t in absurd (omega (arith, r.0, r.1, eqb-false x 1 a, eqb-false x 2 b)))
+      (λ d. simp (a, b, c, d) (size, holds)))))
+
+module _ (n : ℕ) (es : List Entry) (d : Did) (there : n < length es) (items : List Entry) (size : length items ≡ n) (holds : items ≡ take n es) where
+  journal_holds : (length (journal_n items d) ≡ count_n n d.change) × (journal_n items d ≡ take (count_n n d.change) (noted_n es n d))
+  unfolding journal_n noted_n
+  journal_holds = journal_at n es there items size holds (entry_of d) d.change
 
 -- ---- one turn
 
@@ -137,100 +133,91 @@ module _ {m₀ b names o₀ : List ℕ} {count : ℕ} {all : Ran} {m o : List �
           answers_size = out ∙ inv.answers_size;
         }
 
--- ---- a turn by the kind of its command
+-- ---- the loop's state
 
--- An entry behind the changes that are there.
-noted_more : (es : List Entry) (n : ℕ) (w : Work) (c : Command) (s : Step) {e : Entry} → noted s.change ≡ true → e ≡ entry_n c s
-    → set es n e ≡ noted_n es n (step_of w c s)
-unfolding noted_n
-noted_more es n w c s t e = simp t (ap (set es n) e)
+-- a row stored in its place
+same_length : (o : List ℕ) (at n : ℕ) (row : List ℕ) → length row ≡ length (take n (drop at o)) → length (take at o ++ (row ++ drop n (drop at o))) ≡ length o
+same_length o at n row h =
+    simp (length-append, h) (sym (length-append (take at o) _ ∙ ap (λ (i : ℕ). length (take at o) + i) (length-append (take n (drop at o)) (drop n (drop at o))))
+    ∙ ap (λ (l : List ℕ). length (take at o ++ l)) (take-append-drop n (drop at o)) ∙ ap length (take-append-drop at o))
 
--- None.
-noted_none : (es : List Entry) (n : ℕ) (d : Did) → noted d.change ≡ false → es ≡ noted_n es n d
-unfolding noted_n
-noted_none es n d t = simp t
+-- The session before command k: some journal of the model has its changes as the first entries.
+pub record Carried (m₀ b names o₀ : List ℕ) (count : ℕ) (all : Ran) (m o : List ℕ) (s : Session) (k : ℕ) : Type 0 where
+  pub es : List Entry
+  pub room : length es ≡ 256
+  pub holds : s.journal.items ≡ take (length s.journal.items) es
+  pub running : Running m₀ b names o₀ count all m o (session_work s) es (length s.journal.items) k
 
--- The table is set,
-table_set : (b : Batch) (w : Work) (ts us : List AvlTree) (c : Command) (s : Step) → noted s.change ≡ true → us ≡ set_tree_n ts c.tree s.tree
-    → work_of b (table_after ts c s) ≡ w → work_of b us ≡ w
-unfolding table_after
-table_set b w ts us c s t e f = ap (work_of b) e ∙ (simp t at f)
+module _ {m₀ b names o₀ : List ℕ} {count : ℕ} {all : Ran} {m o : List ℕ} (s : Session) {k : ℕ} (inv : Carried m₀ b names o₀ count all m o s k) where
+  abbrev items : List Entry
+  items = s.journal.items
 
--- or it stays.
-table_same : (b : Batch) (w : Work) (ts : List AvlTree) (c : Command) (s : Step) → noted s.change ≡ false → work_of b (table_after ts c s) ≡ w
-    → work_of b ts ≡ w
-unfolding table_after
-table_same b w ts c s t f = simp t at f
+  abbrev n : ℕ
+  n = length s.journal.items
 
-module _ {m₀ b names o₀ : List ℕ} {count : ℕ} {all : Ran} {m o : List ℕ} (q : Batch) {ts : List AvlTree} {es : List Entry} {n k : ℕ}
-    (inv : Running m₀ b names o₀ count all m o (work_of q ts) es n k) (h : k < count) {c : Command} {u : AvlTree}
-    (e1 : c ≡ aimed_n (command_n b k) (cursor_tree (work_of q ts).cursor)) (e2 : u ≡ tree_n ts c.tree) (o1 : List ℕ) (out : length o1 ≡ length o) where
-  abbrev w : Work
-  w = work_of q ts
+  -- A command more.
+  pub carried_on : k < count → {c : Command} → c ≡ command_n b k → {m1 row1 : List ℕ} (s1 : Session)
+      → (let row = take (24 * k + 24 - 24 * k) (drop (24 * k) o) in
+      ◌≡◌ {A = List ℕ × Left} (m1, left_in s1 row1) (turned s row (turn_n m names (session_work s) items n c)))
+      → length m1 ≡ length m → length row1 ≡ length (take (24 * k + 24 - 24 * k) (drop (24 * k) o))
+      → Carried m₀ b names o₀ count all m1 (take (24 * k) o ++ (row1 ++ drop (24 * k + 24 - 24 * k) (drop (24 * k) o))) s1 (k + 1)
+  unfolding left_n answered_n
+  carried_on h {c} ci {m1} {row1} s1 e kept whole =
+      let w = session_work s in
+      let r = turn_n m names w items n c in
+      let d = r.1 in
+      let there : n < length inv.es = omega (arith, inv.room, inv.running.changes, inv.running.most) in
+      let turn : r ≡ turn_n m names w inv.es n (command_n b k) =
+      ap (turn_n m names w items n) ci ∙ ap (λ (es : List Entry). turn_n m names w es n (command_n b k)) inv.holds
+      ∙ sym (turn_same n inv.es (omega (arith, there)) m names w (command_n b k)) in
+      let j = journal_holds n inv.es d there items refl inv.holds in
+      let kept_items : s1.journal.items ≡ journal_n items d = ap (λ (x : List ℕ × Left). x.1.1.1) e in
+      let size : length s1.journal.items ≡ count_n n d.change = ap length kept_items ∙ j.0 in
+      let at = 24 * k + 24 - 24 * k in
+      let answers : take (24 * k) o ++ (row1 ++ drop at (drop (24 * k) o)) ≡ answered_n o k d =
+      answer_stored o k _ _ _ _ (omega (arith, inv.running.answers_fit, inv.running.answers_size)) (ap (λ (x : List ℕ × Left). x.1.1.0) e) in
+      record {
+        es = noted_n inv.es n d;
+        room = noted_length n inv.es d ∙ inv.room;
+        holds = kept_items ∙ j.1 ∙ ap (λ (i : ℕ). take i (noted_n inv.es n d)) (sym size);
+        running = run_on inv.running h {r = (m1, d)} (ap (λ (x : List ℕ × Left). (x.0, d)) e ∙ turn) answers refl size
+            (omega (arith, size, count_low n d.change)) kept
+            (same_length o (24 * k) at row1 whole)
+            (ap (λ (x : List ℕ × Left). x.1.0) e);
+      }
 
-  abbrev Next : List ℕ → Work → List Entry → ℕ → Type 0
-  Next m1 w1 es1 n1 = Running m₀ b names o₀ count all m1 o1 w1 es1 n1 (k + 1)
+  -- No command is left.
+  pub carried_end : count ≤ k → {m1 : List ℕ} {h : Head} → ◌≡◌ {A = Image} (m1, h) (end_n m (session_work s).head (session_work s).mark items n)
+      → ◌≡◌ {A = Ran} (m1, (o, h)) all
+  carried_end h e =
+      run_end inv.running h
+      (e ∙ ap (λ (es : List Entry). end_n m (session_work s).head (session_work s).mark es n) inv.holds
+      ∙ sym (end_same n inv.es (omega (arith, inv.room, inv.running.changes, inv.running.turns, inv.running.most)) m (session_work s).head (session_work s).mark))
 
-  -- the op is that of the command as it stands in the batch
-  op_is : c.op ≡ (command_n b k).op
-  unfolding aimed_n
-  op_is = ap (λ (x : Command). x.op) e1
-
-  -- A record shown, or no op.
-  pub see_on : (s : Sight) → alters c.op ≡ false → settles c.op ≡ false → s ≡ see_n m q.numbers w.cursor u c c.op → (p : Batch)
-      → ((us : List AvlTree) → work_of p us ≡ seen_n (work_of q us) c s) → {j : ℕ} → j ≡ kind (work_of p ts).cursor
-      → o1 ≡ put_answer_n o k s.code j s.slot (record_n m s.slot) → Next m (work_of p ts) es n
-  unfolding noted_n noted within count_n answered_n turn_n at_op
-  see_on s f g e3 p e4 e5 e6 =
-      let r : Out = (m, sight_of m w c s) in
-      let turn : r ≡ turn_n m names w es n (command_n b k) =
-      simp (← e1, ← op_is, g, f, ← e2, ← e3) in
-      run_on inv h {r = r} turn (e6 ∙ ap (λ (i : ℕ). put_answer_n o k s.code i s.slot (record_n m s.slot)) (e5 ∙ ap (λ (v : Work). kind v.cursor) (e4 ts)))
-      refl refl (omega arith) refl out (e4 ts)
-
-  module _ (s : Step) (f : alters c.op ≡ true) {m1 : List ℕ}
-      (e3 : ◌≡◌ {A = Changed} (m1, s) (alter_n m names q.numbers w.cursor u c c.op)) (kept : length m1 ≡ length m) (p : Batch)
-      (e4 : (us : List AvlTree) → work_of p (table_after us c s) ≡ stepped (work_of q us) c s) {j : ℕ} (e5 : j ≡ kind (work_of p ts).cursor)
-      (e6 : o1 ≡ put_answer_n o k s.code j s.slot (step_rec c s)) {n1 : ℕ} (e7 : (n1 ≡ count_n n s.change) × (n1 ≤ n + 1)) where
-    abbrev came : Out
-    came = (m1, step_of w c s)
-
-    turned : came ≡ turn_n m names w es n (command_n b k)
-    unfolding turn_n at_op
-    turned = simp (← e1, ← op_is, alters_settles c.op f, f, ← e2) (ap (λ (a : Changed). (a.0, step_of w c a.1)) e3)
-
-    answered : o1 ≡ answered_n o k (step_of w c s)
-    unfolding answered_n
-    answered = e6 ∙ ap (λ (i : ℕ). put_answer_n o k s.code i s.slot (step_rec c s)) (e5 ∙ ap (λ (v : Work). kind v.cursor) (e4 ts))
-
-    -- A record added or removed.
-    pub alter_noted : noted s.change ≡ true → {e : Entry} → e ≡ entry_n c s → {us : List AvlTree} → us ≡ set_tree_n ts c.tree s.tree
-        → Next m1 (work_of p us) (set es n e) n1
-    alter_noted t e i =
-        run_on inv h {r = came} turned answered (noted_more es n w c s t e) e7.0 e7.1 kept out (table_set p (stepped w c s) ts _ c s t i (e4 ts))
-
-    -- A refusal.
-    pub alter_refused : noted s.change ≡ false → Next m1 (work_of p ts) es n1
-    alter_refused t =
-        run_on inv h {r = came} turned answered (noted_none es n (step_of w c s) t) e7.0 e7.1 kept out (table_same p (stepped w c s) ts c s t (e4 ts))
-
-  -- A mark settled, or a reset.
-  module _ (s : Settled) (f : settles c.op ≡ true) {m1 : List ℕ}
-      (e3 : ◌≡◌ {A = List ℕ × Settled} (m1, s) (settle_all_n m (head_of q ts) q.mark es n c.op)) where
-    turned_settled : ◌≡◌ {A = Out} (m1, settled_of s) (turn_n m names w es n (command_n b k))
-    unfolding turn_n
-    turned_settled = simp (← op_is, f) (ap (λ (r : List ℕ × Settled). (r.0, settled_of r.1)) e3)
-
-    pub settle_on : length m1 ≡ length m → o1 ≡ put_answer_n o k s.code 0 0 no_record → {n1 : ℕ} → (n1 ≡ count_n n s.change) × (n1 ≤ n + 1)
-        → {w1 : Work} → w1 ≡ begun_n s.head s.mark → Next m1 w1 es n1
-    unfolding answered_n begun_n kind
-    settle_on kept e4 e5 e6 =
-        let unnoted = ap (λ (r : List ℕ × Settled). noted r.1.change) e3 ∙ settle_unnoted m (head_of q ts) q.mark es n c.op in
-        run_on inv h {r = (m1, settled_of s)} turned_settled e4 (noted_none es n (settled_of s) unnoted) e5.0 e5.1 kept out e6
+all_is : (count : ℕ) (m b names o : List ℕ) (h : Head)
+    → ran_n count m b names o h ≡ run_n count m b names o (begun_n h no_mark) (replicate 256 no_entry) 0 0
+unfolding ran_n
+all_is count m b names o h = refl
 
 -- The commands from the start: no cursor, no mark, an empty journal.
-pub run_all : (count : ℕ) (m b names o : List ℕ) (h : Head) {w : Work} {e : Entry} {last : Ran} → w ≡ begun_n h no_mark → e ≡ no_entry
-    → last ≡ run_n count m b names o w (replicate 256 e) 0 0 → last ≡ ran_n count m b names o h
-unfolding ran_n
-run_all count m b names o h e1 e2 e3 =
-    e3 ∙ ap₂ (λ (w : Work) (e : Entry). run_n count m b names o w (replicate 256 e) 0 0) e1 e2
+pub carried_first : {b names : List ℕ} {count : ℕ} (m o : List ℕ) (h : Head) → (count ≤ 256) × ((16 + 24 * count ≤ length b) × (24 * count ≤ length o))
+    → (s : Session) → session_work s ≡ begun_n h no_mark → s.journal.items ≡ [] → Carried m b names o count (ran_n count m b names o h) m o s 0
+carried_first {b} {names} {count} m o h q s e f =
+    let none : length s.journal.items ≡ 0 = ap length f in
+    record {
+      es = replicate 256 no_entry;
+      room = length-replicate 256 no_entry;
+      holds = f ∙ ap (λ (i : ℕ). take i (replicate 256 no_entry)) (sym none);
+      running = record {
+        most = q.0;
+        commands_fit = q.1.0;
+        answers_fit = q.1.1;
+        turns = omega arith;
+        changes = omega (arith, none);
+        same = ap₂ (λ (w : Work) (n : ℕ). run_n (count - 0) m b names o w (replicate 256 no_entry) n 0) e none
+            ∙ ap (λ (i : ℕ). run_n i m b names o (begun_n h no_mark) (replicate 256 no_entry) 0 0) (sub-zero count)
+            ∙ sym (all_is count m b names o h);
+        body_size = refl;
+        answers_size = refl;
+      };
+    }

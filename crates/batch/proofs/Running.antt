@@ -1,14 +1,7 @@
 -- One command in its turn, and all commands of a batch in turn: the body, the answers and the head that they leave are those of `meaning`.
 -- Assumes nothing.
-use mathlib.Core.Bool.{Bool, true, false, cond}
-use mathlib.Core.List.{List, ◌∷◌, ◌++◌, append-nil, append_assoc, map}
-use mathlib.Core.Option.{Option, none, some}
-use mathlib.Core.Path.{◌≡◌, refl, sym, ap, ap₂, ◌∙◌, subst}
-use Prim.Native.Nat.{ℕ, zero, suc, ◌+◌, ◌*◌, ◌≤◌, ◌<◌}
-use native.Mathlib.Omega.{arith}
-use lib.Dec.{eqb}
-use lib.ListN.{length, drop, length-append, length-drop}
-use lib.Seq.{drop-drop}
+use Rattle.std.proofs.Common.{◌≡◌, ℕ, zero, suc, ◌+◌, ◌*◌, ◌<◌, ◌≤◌, Bool, true, false, cond, eqb, List, ◌∷◌, ◌++◌, map, length, drop, sym, refl, ap, ◌∙◌, subst, ap₂, append_assoc, append-nil, arith, length-append, length-drop, drop-drop}
+use Rattle.std.proofs.Math.Option.{Option, none, some}
 use Rattle.meaning.specs.Layout.{span}
 use Rattle.meaning.specs.Pool.{Rec, Pool}
 use Rattle.meaning.specs.Change.{Mark, rolled_back}
@@ -64,7 +57,7 @@ record Turn (f : ℕ) (b names done o : List ℕ) (es : List Entry) (n k : ℕ) 
   goes : r ≡ run_n f (body_of q.state.pool) b names ((done ++ q.answer) ++ drop 24 o) (work_in q.state) entries count (k + 1)
 
 -- The journal gets one entry at most.
-count_low : (n change : ℕ) → count_n n change ≤ n + 1
+pub count_low : (n change : ℕ) → count_n n change ≤ n + 1
 unfolding count_n
 count_low n change = go (eqb change 1) (eqb change 2) (eqb change 3)
   where

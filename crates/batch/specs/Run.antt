@@ -1,62 +1,30 @@
 -- A model: what the code computes. No door's promise cites it, and it need not be believed.
 -- The commands of a batch in turn, on the body, the answers and the state, with the journal of a mark. Assumes nothing.
-use Rattle.std.specs.Prelude.{cond, List, ℕ, zero, suc, ◌+◌, ◌-◌, eqb, set, replicate}
-use Rattle.tree.specs.declared.node.AvlTree.{AvlTree}
-use Rattle.meaning.specs.Layout.{within}
+use Rattle.std.specs.Prelude.{cond, List, ℕ, zero, suc, ◌+◌, eqb, set, replicate}
 use Rattle.meaning.specs.Cursor.{kind, cursor_tree}
 use Rattle.slots.specs.Change.{Image}
 use Rattle.slots.specs.Answer.{put_answer_n}
 use Rattle.slots.specs.declared.head.Head.{Head}
 use Rattle.journal.specs.Journal.{no_entry, roll_back_n}
 use Rattle.journal.specs.declared.Entry.{Entry}
+use Rattle.journal.specs.declared.Noted.TheVariants.{Added, Removed}
 use Rattle.cursor.specs.Tests.{command_n, aimed_n}
-use Rattle.cursor.specs.Work.{no_mark, Work, begun_n, noted, Did}
+use Rattle.cursor.specs.Given.{Step, Mark}
+use Rattle.cursor.specs.Work.{no_mark, Work, begun_n, noted, Did, step_rec}
 use Rattle.cursor.specs.declared.command.Command.{Command}
-use Rattle.cursor.specs.declared.result.Step.{Step}
-use Rattle.cursor.specs.declared.state.Mark.{Mark}
 use Rattle.ops.specs.Ops.{settled_n}
 use Rattle.ops.specs.Perform.{settles, settle_n, Out, settled_of, at_op}
-use Rattle.ops.specs.declared.mark.Settled.{Settled}
-
--- ---- the tree table
-
--- where tree t stands in the table, and a choice by whether t is a tree's number
-unfoldable pub place_n : ℕ → ℕ
-place_n t = cond (within 1 8 t) (t - 1) 0
-
-unfoldable pub pick_n : ℕ → AvlTree → AvlTree → AvlTree
-pick_n t v other = cond (within 1 8 t) v other
+use Rattle.ops.specs.Given.{Settled}
 
 -- ---- the journal
 
 -- what a change by the command c leaves in it
 abbrev pub entry_n : Command → Step → Entry
-entry_n c s =
-    record {
-      key = s.key;
-      stamp = s.stamp;
-      start = s.start;
-      len = s.len;
-      slot = s.slot;
-      home = c.tree;
-      added = eqb s.change 1;
-      spare = 0;
-    }
+entry_n c s = record { slot = s.slot; change = cond (eqb s.change 1) Added (Removed (step_rec c s)) }
 
 -- the same from what a command has done
 abbrev pub entry_of : Did → Entry
-entry_of d =
-    let v = d.rec in
-    record {
-      key = v.key;
-      stamp = v.stamp;
-      start = v.start;
-      len = v.len;
-      slot = d.slot;
-      home = v.tree;
-      added = eqb d.change 1;
-      spare = 0;
-    }
+entry_of d = record { slot = d.slot; change = cond (eqb d.change 1) Added (Removed d.rec) }
 
 -- how many changes it has after a command, and the journal then: a change stands behind the n that are there
 unfoldable pub count_n : ℕ → ℕ → ℕ

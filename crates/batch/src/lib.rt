@@ -2,13 +2,13 @@
 // pools, batches and answer buffers, with no `requires`. Crate `ops` has the commands, `cursor` the state
 // that they share, `journal` what undoes them.
 //
-// | file    | what it does                                                              |
-// |---------|---------------------------------------------------------------------------|
-// | door.rt | the door: header and length, answers, soundness; then the commands        |
-// | run.rt  | the commands in turn, the journal of a mark, and the rollback at the end  |
-// | turn.rt | what a turn of that loop does beside the command: tree, answer, journal   |
+// | file       | what it does                                                             |
+// |------------|--------------------------------------------------------------------------|
+// | door.rt    | the door: header and length, answers, soundness; then the commands       |
+// | run.rt     | the commands in turn                                                     |
+// | session.rt | what is carried from command to command, a command in its turn, the end  |
 #![tactic(auto)]
 
 pub mod door;
 mod run;
-mod turn;
+mod session;

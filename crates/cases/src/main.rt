@@ -20,12 +20,12 @@
 // the door is called, and COUNT is how many of its bytes behind the answers are still 255.
 #![tactic(auto)]
 
-ghost use Rattle.std.specs.Prelude.{◌≤◌};
-
 use batch::door::batch;
+use console::answer::Answer;
+use console::print::Hex;
 use console::{print, read, space};
 use create::create::create;
-use format::answer;
+use format::{answer, refusal};
 use judge::verdict::check;
 use lines::listing;
 use name::name::name;
@@ -33,180 +33,151 @@ use name::name::name;
 // The most calls that are run.
 const CALLS: u32 = 100_000;
 
-// The kinds of calls.
-mod call {
-    pub const END: u8 = 0;
+// The kinds of calls, by their numbers. An input that has ended reads as the end.
+#[derive(Clone, Copy, PartialEq, Eq)]
+enum Call {
+    End,
+    Create,
+    Batch,
+    Check,
+    Name,
+    Listing,
+    Title,
+    Damage,
+}
 
-    pub const CREATE: u8 = 1;
+// A number that no kind of call has.
+#[derive(Clone, Copy, PartialEq, Eq)]
+struct UnknownCall(u8);
 
-    pub const BATCH: u8 = 2;
+impl TryFrom<u8> for Call {
+    type Error = UnknownCall;
 
-    pub const CHECK: u8 = 3;
-
-    pub const NAME: u8 = 4;
-
-    pub const LISTING: u8 = 5;
-
-    pub const TITLE: u8 = 6;
-
-    pub const DAMAGE: u8 = 7;
+    fn try_from(kind: u8) -> Result<Call, UnknownCall> {
+        match kind {
+            0 => Ok(Call::End),
+            1 => Ok(Call::Create),
+            2 => Ok(Call::Batch),
+            3 => Ok(Call::Check),
+            4 => Ok(Call::Name),
+            5 => Ok(Call::Listing),
+            6 => Ok(Call::Title),
+            7 => Ok(Call::Damage),
+            _ => Err(UnknownCall(kind)),
+        }
+    }
 }
 
 // The length in use from now on.
 fn next_create(space: &mut [u8]) -> usize {
-    let n = read::next_u32();
-    let t = read::next_u32();
-    let x = read::next_u32();
-    let length = read::next_u32() as usize;
+    let n = read::next();
+    let t = read::next();
+    let x = read::next();
+    let length = read::next::<u32>() as usize;
     let used = space::within(length, space);
-    let code = create(n, t, x, &mut space[..used]);
-    print::number_line(b"create ", code as u64);
+    let code = refusal::code(create(n, t, x, &mut space[..used]));
+    print::line(format_args!("create {code}"));
     length
-}
-
-// The fields of an answer, on a line.
-fn print_answer(a: &[u8]) {
-    print::number(b"", fields::get_u8(a, answer::CODE) as u64);
-    print::number(b" ", fields::get_u8(a, answer::KIND) as u64);
-    print::number(b" ", fields::get_u16(a, answer::SLOT) as u64);
-    print::number(b" ", fields::get_u32(a, answer::STAMP) as u64);
-    print::number(b" ", fields::get_u64(a, answer::KEY));
-    print::number(b" ", fields::get_u32(a, answer::NAME_START) as u64);
-    print::number_line(b" ", fields::get_u16(a, answer::NAME_LEN) as u64);
 }
 
 // The first `count` answers, as far as there are so many.
 fn print_answers(answers: &[u8], count: usize) {
-    let mut left = count;
-    let mut at: usize = 0;
-    while left > 0 {
-        if answers.len() - at < answer::SIZE {
-            return;
-        }
-        print_answer(&answers[at..at + answer::SIZE]);
-        at += answer::SIZE;
-        left -= 1;
+    for row in answers.chunks_exact(answer::SIZE).take(count) {
+        let told = Answer::read(row, 0);
+        print::line(format_args!("{told} {} {}", told.start, told.len));
     }
-}
-
-// 1 for a byte that is 255, else 0.
-fn is_untouched(byte: u8) -> usize
-    ensures { result ≤ 1 }
-{
-    if byte == 255 {
-        return 1;
-    }
-    0
-}
-
-// How many bytes from `from` on are 255.
-fn untouched(answers: &[u8], from: usize) -> usize {
-    let mut count: usize = 0;
-    let mut i = from;
-    while i < answers.len() {
-        count += is_untouched(answers[i]);
-        i += 1;
-    }
-    count
 }
 
 // What the batch `w` does to the pool `p`, with `answers` as its answers.
 fn run_batch(p: &mut [u8], w: &[u8], answers: &mut [u8]) {
     let outcome = batch(p, w, answers);
-    let answered = outcome.answered as usize;
-    print::number(b"batch ", outcome.code as u64);
-    print::number_line(b" ", answered as u64);
+    let code = refusal::code(outcome);
+    let answered = outcome.unwrap_or(0) as usize;
+    print::line(format_args!("batch {code} {answered}"));
     print_answers(answers, answered);
-    print::number_line(b"rest ", untouched(answers, answer::SIZE * answered) as u64);
+    let behind = answers.iter().skip(answer::SIZE * answered);
+    let untouched = behind.filter(|byte| **byte == 255).count();
+    print::line(format_args!("rest {untouched}"));
 }
 
-// `w` is the space for the batch.
+// `w` is the space for the batch. What the answers do not cover of their space stays 255.
 fn next_batch(p: &mut [u8], w: &mut [u8]) {
-    let length = read::next_u32() as usize;
-    let room = read::next_u32() as usize;
+    let length = read::next::<u32>() as usize;
+    let room = read::next::<u32>() as usize;
     let n = read::part(length, w);
-    let mut answers = space::marked_answers();
+    let mut answers = space::all_of::<{ space::WIDE_ANSWERS }>(255);
     let k = space::within(room, &answers);
     run_batch(p, &w[..n], &mut answers[..k]);
 }
 
 fn print_check(p: &[u8]) {
-    print::number_line(b"check ", check(p) as u64);
+    let code = refusal::code(check(p));
+    print::line(format_args!("check {code}"));
 }
 
 fn next_name(p: &[u8]) {
-    let tree = read::next_u8();
-    let slot = read::next_u16();
-    let stamp = read::next_u32();
+    let tree = read::next();
+    let slot = read::next();
+    let stamp = read::next();
     let part = name(p, tree, slot, stamp);
-    print::text(b"name");
-    if part.len() > 0 {
-        print::text(b" ");
-        print::hex_bytes(part);
+    if part.is_empty() {
+        print::line("name");
+    } else {
+        print::line(format_args!("name {}", Hex(part)));
     }
-    print::newline();
 }
 
 fn print_listing(p: &[u8]) {
-    let mut text = space::text();
+    let mut text = space::all_of::<{ space::TEXT }>(0);
     let n = listing(p, &mut text);
     print::first(n, &text);
 }
 
 // `w` is the space for the title.
 fn next_title(w: &mut [u8]) {
-    let length = read::next_u16() as usize;
+    let length = read::next::<u16>() as usize;
     let n = read::part(length, w);
     print::text(&w[..n]);
-    print::newline();
+    print::line("");
 }
 
 // A place outside the pool changes nothing.
 fn damage(p: &mut [u8]) {
-    let place = read::next_u32() as usize;
-    let byte = read::next_u8();
-    fields::put_u8(p, place, byte);
-}
-
-// A call of the given kind, other than create, on the pool `p`.
-fn act(kind: u8, p: &mut [u8], w: &mut [u8]) {
-    match kind {
-        call::BATCH => next_batch(p, w),
-        call::CHECK => print_check(p),
-        call::NAME => next_name(p),
-        call::LISTING => print_listing(p),
-        call::TITLE => next_title(w),
-        call::DAMAGE => damage(p),
-        _ => {}
-    }
+    let place = read::next::<u32>() as usize;
+    let byte = read::next::<u8>();
+    fields::put(p, place, byte);
 }
 
 // A call of the given kind, with `used` as the length in use; the length in use from now on.
-fn turn(kind: u8, space: &mut [u8], w: &mut [u8], used: usize) -> usize {
-    if kind == call::CREATE {
-        return next_create(space);
-    }
+fn act(call: Call, space: &mut [u8], w: &mut [u8], used: usize) -> usize {
     let n = space::within(used, space);
-    act(kind, &mut space[..n], w);
+    match call {
+        Call::End => {}
+        Call::Create => return next_create(space),
+        Call::Batch => next_batch(&mut space[..n], w),
+        Call::Check => print_check(&space[..n]),
+        Call::Name => next_name(&space[..n]),
+        Call::Listing => print_listing(&space[..n]),
+        Call::Title => next_title(w),
+        Call::Damage => damage(&mut space[..n]),
+    }
     used
 }
 
-// The calls in turn, until the input ends, which reads as kind 0.
+// The calls in turn, until the input ends. One of an unknown kind is passed over.
 fn run(space: &mut [u8], w: &mut [u8]) {
-    let mut used: usize = 0;
-    let mut left = CALLS;
-    while left > 0 {
-        let kind = read::next_u8();
-        if kind == call::END {
-            return;
+    let mut used = 0;
+    for _ in 0..CALLS {
+        match Call::try_from(read::next::<u8>()) {
+            Ok(Call::End) => return,
+            Ok(call) => used = act(call, space, w, used),
+            Err(_) => {}
         }
-        used = turn(kind, space, w, used);
-        left -= 1;
     }
 }
 
 fn main() {
-    let mut space = space::pool();
-    let mut w = space::input();
+    let mut space = space::all_of::<{ space::POOL }>(0);
+    let mut w = space::all_of::<{ space::INPUT }>(0);
     run(&mut space, &mut w);
 }

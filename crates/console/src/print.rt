@@ -1,15 +1,26 @@
-// Printing. What is written no contract can say: each function is proved safe and to end.
+// Printing to standard output, by the library `io` and not by a handle of the runtime: that would rest on one
+// C function more. What is written no contract can say, and a write that fails is passed over.
 use crate::space;
+use std::fmt;
+use std::fmt::{Display, Formatter, Write};
 
 // The number of standard output.
 const STDOUT_FILENO: i32 = 1;
 
-pub fn text(b: &[u8]) {
-    io::write_all(STDOUT_FILENO, b);
+// Standard output, as what values are formatted to.
+#[derive(Clone, Copy)]
+struct Output;
+
+impl Write for Output {
+    fn write_str(&mut self, s: &str) -> fmt::Result {
+        text(s.as_bytes());
+        Ok(())
+    }
 }
 
-pub fn newline() {
-    text(b"\n");
+// The bytes as they are.
+pub fn text(b: &[u8]) {
+    io::write_all(STDOUT_FILENO, b);
 }
 
 // The first `n` bytes, or all of them if there are fewer.
@@ -18,28 +29,25 @@ pub fn first(n: usize, b: &[u8]) {
     text(&b[..k]);
 }
 
-// `before`, and behind it a number in decimal.
-pub fn number(before: &[u8], value: u64) {
-    text(before);
-    io::print_decimal(STDOUT_FILENO, value);
+// A value, as it is displayed.
+pub fn value<D: Display + Drop>(shown: D) {
+    let _ = Output.write(shown);
 }
 
 // The same on a line.
-pub fn number_line(before: &[u8], value: u64) {
-    number(before, value);
-    newline();
+pub fn line<D: Display + Drop>(shown: D) {
+    let _ = Output.writeln(shown);
 }
 
-// A number in hexadecimal, with zeros in front up to `width` digits.
-pub fn hex(value: u64, width: usize) {
-    io::print_hex(STDOUT_FILENO, value, width);
-}
+// Bytes that are displayed as two hexadecimal digits each.
+#[derive(Clone, Copy)]
+pub struct Hex<'a>(pub &'a [u8]);
 
-// Each byte as two hexadecimal digits.
-pub fn hex_bytes(b: &[u8]) {
-    let mut i: usize = 0;
-    while i < b.len() {
-        hex(fields::get_u8(b, i) as u64, 2);
-        i += 1;
+impl Display for Hex<'_> {
+    fn fmt<W: Write>(&self, f: &mut Formatter<W>) -> fmt::Result {
+        for byte in self.0 {
+            write!(f, "{byte:02x}")?;
+        }
+        Ok(())
     }
 }

@@ -1,8 +1,10 @@
-// Reading. What is read no contract can say; where bytes are missing, the buffer keeps what it had.
+// Reading, by the library `io`, which reads until a buffer is full or the input ends and says how much that
+// was. What is read no contract can say; where bytes are missing, the buffer keeps what it had.
 ghost use Rattle.std.specs.Prelude.{◌≡◌, min, length};
 ghost use Rattle.io.specs.Counts.{IsPrefixLen};
 
 use crate::space;
+use fields::Number;
 
 // The number of standard input.
 const STDIN_FILENO: i32 = 0;
@@ -26,21 +28,10 @@ pub fn part(n: usize, b: &mut [u8]) -> usize
     space::within(n, b)
 }
 
-// The next number of the input, little-endian; 0 in place of bytes that are missing.
-pub fn next_u8() -> u8 {
-    let mut b = [0u8; 1];
-    io::read_full(STDIN_FILENO, &mut b);
-    fields::get_u8(&b, 0)
-}
-
-pub fn next_u16() -> u16 {
-    let mut b = [0u8; 2];
-    io::read_full(STDIN_FILENO, &mut b);
-    fields::get_u16(&b, 0)
-}
-
-pub fn next_u32() -> u32 {
-    let mut b = [0u8; 4];
-    io::read_full(STDIN_FILENO, &mut b);
-    fields::get_u32(&b, 0)
+// The next number of the input, little-endian; 0 in place of bytes that are missing. No type's numbers are
+// wider than the buffer.
+pub fn next<T: Number>() -> T {
+    let mut b = [0u8; 8];
+    part(T::WIDTH, &mut b);
+    fields::get(&b, 0)
 }

@@ -1,14 +1,7 @@
 -- The answers of the functions of `create`, each from what its tests and callees say. Assumes nothing.
-use mathlib.Core.Bool.{Bool, true, false, ◌&&◌, and-true}
-use mathlib.Core.List.{List}
-use mathlib.Core.Path.{◌≡◌, sym, ap, ◌∙◌}
-use Prim.Native.Nat.{ℕ, ◌+◌, ◌*◌, ◌≤◌}
-use lib.Dec.{leb, eqb}
-use lib.ListN.{length, replicate}
-use borrow.Author.Tests.{leb-true, eqb-true}
-use Rattle.fields.specs.Number.{put_le}
+use Rattle.std.proofs.Common.{◌≡◌, ℕ, ◌+◌, ◌*◌, ◌≤◌, Bool, true, false, leb, List, length, replicate, sym, ap, ◌∙◌, eqb-true, leb-true}
 use Rattle.fields.specs.Part.{splice}
-use Rattle.meaning.specs.Layout.{within, all}
+use Rattle.meaning.specs.Layout.{within}
 use Rattle.meaning.specs.Pool.{bytes}
 use Rattle.meaning.specs.Doors.{fresh, sizes_ok, create}
 use Rattle.meaning.proofs.Facts.{facts, both}
@@ -33,12 +26,6 @@ limits N T X b ensured passed =
       long = eqb-true (length b) (32 + 8 * T + 32 * N + X) k.1.1.1.0;
     }
 
--- the tests of `sizes_ok`, from the last on
-pub sizes_row : (N T X : ℕ) (b : List ℕ) {slots trees rest more whole : Bool} → slots ≡ (leb 1 N && leb N 1024) → trees ≡ (leb 1 T && leb T 8)
-    → rest ≡ (leb X 8192 && eqb (length b) (32 + 8 * T + 32 * N + X)) → more ≡ (trees && rest) → whole ≡ (slots && more) → whole ≡ sizes_ok N T X b
-unfolding sizes_ok within all
-sizes_row N T X b e1 e2 e3 e4 e5 = rw and-true (cc)
-
 -- ---- the answers of `create`
 
 pub refused : (N T X : ℕ) (b : List ℕ) {ok : Bool} → ok ≡ sizes_ok N T X b → ok ≡ false → record { code = 4; buffer = b } ≡ create N T X b
@@ -53,10 +40,3 @@ created N T X b {last = last} ensured passed zeroed stored =
     let e : last ≡ bytes (fresh N T X) =
     stored ∙ ap (λ (l : List ℕ). headed l N T X) zeroed ∙ fresh_stored N T X b (limits N T X b ensured passed).long in
     rw (h, e)
-
--- the lists between the stores of `write_header`
-pub stored : (b : List ℕ) (N T X : ℕ) {b1 b2 b3 b4 b5 b6 b7 b8 : List ℕ} → b1 ≡ put_le 2 b 0 1 → b2 ≡ put_le 2 b1 2 N → b3 ≡ put_le 2 b2 4 T
-    → b4 ≡ put_le 4 b3 8 32 → b5 ≡ put_le 4 b4 12 (32 + 8 * T) → b6 ≡ put_le 4 b5 16 (32 + 8 * T + 32 * N) → b7 ≡ put_le 4 b6 20 X
-    → b8 ≡ put_le 4 b7 28 1 → b8 ≡ headed b N T X
-unfolding headed
-stored b N T X e1 e2 e3 e4 e5 e6 e7 e8 = (cc)

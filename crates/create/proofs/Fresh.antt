@@ -1,11 +1,7 @@
 -- The bytes of a fresh pool: the header's stores into zeros are what `bytes` writes. Assumes nothing.
-use mathlib.Core.List.{List, [], ◌∷◌, ◌++◌, append-nil, map}
-use mathlib.Core.Option.{Option, none}
-use mathlib.Core.Path.{◌≡◌, refl, sym, ap, ap₂, ◌∙◌}
-use Prim.Native.Nat.{ℕ, zero, suc, ◌+◌, ◌*◌, ◌-◌, ◌≤◌}
-use native.Mathlib.Nat.{mul-suc}
-use native.Mathlib.Omega.{arith}
-use lib.ListN.{length, replicate, length-replicate, replicate-append-replicate}
+use Rattle.std.proofs.Common.{◌≡◌, ℕ, zero, suc, ◌+◌, ◌-◌, ◌*◌, ◌≤◌, List, [], ◌∷◌, ◌++◌, map, length, replicate, sym, refl, ap, ◌∙◌, ap₂, append-nil, mul-suc, arith}
+use Rattle.std.proofs.Math.Option.{Option, none}
+use Rattle.std.proofs.lemmas.List.{length-replicate, replicate-append-replicate}
 use Rattle.fields.specs.Number.{digits, put_le}
 use Rattle.fields.specs.Part.{splice}
 use Rattle.fields.proofs.Numbers.{length_digits, length_put}

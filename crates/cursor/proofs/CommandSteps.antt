@@ -1,17 +1,8 @@
--- A command as it is read, and a key on a side of a record, branch by branch. Assumes nothing.
-use mathlib.Core.Bool.{Bool, true, false}
-use mathlib.Core.List.{List}
-use mathlib.Core.Path.{◌≡◌, ap, ◌∙◌}
-use Prim.Native.Nat.{ℕ, ◌+◌, ◌*◌, ◌-◌, ◌≤◌}
-use native.Mathlib.Omega.{arith}
-use lib.Dec.{ltb}
-use lib.ListN.{length, take, drop}
-use borrow.Author.Tests.{eq-eqb, ne_eqb}
+-- A command as it is read. Assumes nothing.
+use Rattle.std.proofs.Common.{◌≡◌, ℕ, ◌+◌, ◌-◌, ◌*◌, ◌≤◌, List, length, take, drop, ap, ◌∙◌, arith}
 use Rattle.fields.specs.Number.{get_le}
-use Rattle.avl.specs.Tree.{Dir, left, right}
-use Rattle.tree.specs.Node.{way, key_n}
 use Rattle.fields.proofs.Spans.{get_part}
-use Rattle.cursor.specs.Tests.{command_n, past_n}
+use Rattle.cursor.specs.Tests.{command_n}
 use Rattle.cursor.specs.declared.command.Command.{Command}
 
 -- ---- a command
@@ -44,22 +35,3 @@ module _ (w : List ℕ) (k : ℕ) (fits : 16 + 24 * (k + 1) ≤ length w) where
       let f6 = in_place 0 1 (omega arith) in
       let f7 = in_place 1 1 (omega arith) in
       (cc)
-
--- ---- a key on a side of a record
-
--- There is no record.
-pub past_none : (m : List ℕ) (d : Dir) (x key : ℕ) → x ≡ 0 → true ≡ past_n m d x key
-unfolding past_n
-past_none m left x key z = simp (eq-eqb x 0 z)
-past_none m right x key z = simp (eq-eqb x 0 z)
-
-module _ (m : List ℕ) (d : Bool) (x key : ℕ) where
-  -- Right of a record.
-  pub past_right : (x ≡ 0 → ⊥) → {k : ℕ} → k ≡ key_n m x → d ≡ true → ltb k key ≡ past_n m (way d) x key
-  unfolding past_n
-  past_right z e t = simp (t, ne_eqb x 0 z, ← e)
-
-  -- Left of a record.
-  pub past_left : (x ≡ 0 → ⊥) → {k : ℕ} → k ≡ key_n m x → d ≡ false → ltb key k ≡ past_n m (way d) x key
-  unfolding past_n
-  past_left z e t = simp (t, ne_eqb x 0 z, ← e)

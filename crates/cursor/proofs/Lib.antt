@@ -1,4 +1,3 @@
 pub mod CommandSteps
 pub mod CursorSteps
 pub mod OneToOne
-pub mod StateSteps

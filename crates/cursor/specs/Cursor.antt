@@ -15,7 +15,7 @@ use Rattle.cursor.specs.declared.cursor.Next.TheVariants.{Gone, Kept, Shown, Sto
 abbrev pub cursor_of : CodeCursor → Cursor
 cursor_of Nowhere = nowhere
 cursor_of (Occupied t x) = occupied t x
-cursor_of (Vacant t x d k) = vacant t x (way d.0) k
+cursor_of (Vacant t x d k) = vacant t x (way d) k
 cursor_of (First t x) = first_entry t x
 cursor_of (Last t x) = last_entry t x
 
@@ -46,5 +46,5 @@ after_n k c Gone x = nowhere
 after_n k c Kept x = k
 after_n k c Shown x = occupied c.tree x
 after_n k c Stood x = occupied c.tree (standing k)
-after_n k c (End d) x = end_at (way d.0) c.tree x
-after_n k c (Below d) x = vacant c.tree x (way d.0) c.key
+after_n k c (End d) x = end_at (way d) c.tree x
+after_n k c (Below d) x = vacant c.tree x (way d) c.key

@@ -1,3 +1,4 @@
 pub mod Cursor
+pub mod Given
 pub mod Tests
 pub mod Work

@@ -13,11 +13,9 @@ use Rattle.slots.specs.declared.head.Head.{Head}
 use Rattle.slots.specs.declared.head.Numbers.{Numbers}
 use Rattle.slots.specs.declared.record.Record.{Record}
 use Rattle.cursor.specs.Cursor.{cursor_of, after_n}
+use Rattle.cursor.specs.Given.{Mark, mark_in, Sight, Step}
 use Rattle.cursor.specs.declared.command.Command.{Command}
-use Rattle.cursor.specs.declared.result.Sight.{Sight}
-use Rattle.cursor.specs.declared.result.Step.{Step}
 use Rattle.cursor.specs.declared.state.Batch.{Batch}
-use Rattle.cursor.specs.declared.state.Mark.{Mark}
 
 -- ---- the state
 
@@ -35,7 +33,7 @@ abbrev pub head_of : Batch → List AvlTree → Head
 head_of b ts = record { numbers = b.numbers; table = ts }
 
 abbrev pub work_of : Batch → List AvlTree → Work
-work_of b ts = record { head = head_of b ts; cursor = cursor_of b.cursor; mark = b.mark }
+work_of b ts = record { head = head_of b ts; cursor = cursor_of b.cursor; mark = mark_in b.mark }
 
 unfoldable pub begun_n : Head → Mark → Work
 begun_n h k = record { head = h; cursor = nowhere; mark = k }

@@ -1,4 +1,4 @@
 pub mod Parts
 pub mod Numbers
 pub mod Spans
-mod Loops
+pub mod Loops

@@ -1,17 +1,8 @@
--- What the loops of part.rt keep: a store that has come to byte i of what is to be stored, and a test that has passed i bytes. Assumes nothing.
-use mathlib.Core.Bool.{Bool, true, false, ◌&&◌, and-false}
-use mathlib.Core.List.{List, ◌++◌, append_assoc}
-use mathlib.Core.Path.{◌≡◌, refl, sym, ap, ap₂, ◌∙◌}
-use Prim.Native.Nat.{ℕ, ◌+◌, ◌-◌, ◌≤◌, ◌<◌}
-use native.Mathlib.Numerals.{add-one}
-use native.Mathlib.Omega.{arith}
-use lib.ListN.{length, take, drop, get_or, set, length-set}
-use lib.Seq.{paste, paste-zero, paste-suc, take-length}
-use borrow.Author.Tests.{eq-eqb, ne_eqb}
-use Rattle.fields.specs.Part.{part, splice, zeros}
-use Rattle.fields.specs.Number.{get_le}
-use Rattle.fields.proofs.Parts.{splice_in, part_join, part_in, zeros_append}
-use Rattle.fields.proofs.Numbers.{zeros_value}
+-- What the loop of `copy_in` keeps: a store that has come to byte i of what is to be stored. Assumes nothing.
+use Rattle.std.proofs.Common.{◌≡◌, ℕ, ◌+◌, ◌<◌, ◌≤◌, List, ◌++◌, length, get_or, take, drop, set, sym, refl, ap, ◌∙◌, ap₂, append_assoc, add-one, arith, length-set}
+use Rattle.std.proofs.Math.Seq.{paste, paste-zero, paste-suc, take-length}
+use Rattle.fields.specs.Part.{splice}
+use Rattle.fields.proofs.Parts.{splice_in}
 
 -- ---- a store byte by byte
 
@@ -48,48 +39,3 @@ fill_end {b₀} {at} {n} {new} {b} {i} f h =
     ∙ ap (λ (l : List ℕ). take at b₀ ++ l ++ drop (at + length new) b₀) (take-length new)
     ∙ append_assoc (take at b₀) new (drop (at + length new) b₀)
     ∙ sym (splice_in b₀ at new (omega arith))
-
--- ---- a test for zeros, by numbers
-
--- the first i of `count` bytes are 0
-pub record Scanned (b : List ℕ) (at count i : ℕ) : Type 0 where
-  pub room : at + count ≤ length b
-  pub come : i ≤ count
-  pub clean : zeros (part b at i) ≡ true
-
-pub scan_start : (b : List ℕ) (at count : ℕ) → at + count ≤ length b → Scanned b at count 0
-unfolding zeros
-scan_start b at count h = record { room = h; come = omega arith; clean = ap zeros (part_in b at 0 (omega arith)) }
-
--- the number in the next k bytes is 0, or is not
-pub scan_turn : (k : ℕ) {b : List ℕ} {at count i : ℕ} → Scanned b at count i → i + k ≤ count → get_le k b (at + i) ≡ 0 → Scanned b at count (i + k)
-unfolding get_le
-scan_turn k {b} {at} {count} {i} s h e =
-    record {
-      room = s.room;
-      come = h;
-      clean =
-          ap zeros (part_join b at i k (omega (arith, s.room)))
-          ∙ zeros_append (part b at i) (part b (at + i) k)
-          ∙ ap₂ ◌&&◌ s.clean (zeros_value (part b (at + i) k) ∙ eq-eqb _ _ e);
-    }
-
-pub scan_stop : (k : ℕ) {b : List ℕ} {at count i : ℕ} → Scanned b at count i → i + k ≤ count → (get_le k b (at + i) ≡ 0 → ⊥)
-    → false ≡ zeros (part b at count)
-unfolding get_le
-scan_stop k {b} {at} {count} {i} s h e =
-    let rest = count - (i + k) in
-    let c : count ≡ i + (k + rest) = omega arith in
-    let next = part b (at + i) k in
-    let dirty : zeros next ≡ false = zeros_value next ∙ ne_eqb _ _ e in
-    sym
-    (ap (λ (n : ℕ). zeros (part b at n)) c
-    ∙ ap zeros (part_join b at i (k + rest) (omega (arith, s.room)) ∙ ap (λ (l : List ℕ). part b at i ++ l) (part_join b (at + i) k rest (omega (arith, s.room))))
-    ∙ zeros_append (part b at i) (next ++ part b (at + i + k) rest)
-    ∙ ap (λ (t : Bool). zeros (part b at i) && t) (zeros_append next (part b (at + i + k) rest) ∙ ap (λ (t : Bool). t && zeros (part b (at + i + k) rest)) dirty)
-    ∙ and-false (zeros (part b at i)))
-
-pub scan_end : {b : List ℕ} {at count i : ℕ} → Scanned b at count i → count ≤ i → true ≡ zeros (part b at count)
-scan_end {b} {at} {count} {i} s h =
-    let e : i ≡ count = omega (arith, s.come) in
-    sym (ap (λ (n : ℕ). zeros (part b at n)) (sym e) ∙ s.clean)

@@ -1,20 +1,17 @@
 -- The laws of little-endian numbers, each once for every width: what a number reads as after a store, its bytes, its bound, and a number as two
 -- halves. Assumes nothing.
-use mathlib.Core.Bool.{Bool, true, false, ◌&&◌}
-use mathlib.Core.List.{List, [], ◌∷◌, ◌++◌}
-use mathlib.Core.Path.{◌≡◌, refl, sym, ap, ap₂, ◌∙◌}
-use Prim.Native.Nat.{ℕ, zero, suc, ◌+◌, ◌*◌, ◌/◌, ◌%◌, ◌≤◌, ◌<◌, ◌^◌}
-use native.Mathlib.Omega.{arith}
-use native.Mathlib.Nat.{pow-suc, pow-succ', suc-add, mul_assoc, mul_comm, suc-mul, mul-le-mul_right, div-div-eq-div-mul}
-use native.Mathlib.Numerals.{add-one}
-use lib.Dec.{eqb}
-use lib.ListN.{length, get_or, set, take}
-use borrow.Author.Tests.{eq-eqb, ne_eqb, eqb-true, eqb-false}
-use lib.Pow.{pow-add}
-use lib.Seq.{drop-cons, set_split}
+use Rattle.std.proofs.Common.{◌≡◌, ℕ, zero, suc, ◌+◌, ◌*◌, ◌/◌, ◌%◌, ◌^◌, ◌<◌, ◌≤◌, Bool, true, false, ◌&&◌, eqb, List, [], ◌∷◌, ◌++◌, length, get_or, take, drop, set, sym, refl, ap, ◌∙◌, ap₂, mul-le-mul_right, mul_assoc, suc-mul, mul_comm, suc-add, pow-suc, add-one, arith, length-drop, take-append-drop, length-take, drop-cons, take-add, pow-add, eq-eqb, ne_eqb, eqb-true}
+use Rattle.std.proofs.Math.Bool.{and-true, and_assoc}
+use Rattle.std.proofs.Math.Nat.{pow-succ', div-div-eq-div-mul, mod-add-div}
+use Rattle.std.proofs.Math.Seq.{take-length}
+use Rattle.std.proofs.lemmas.Bool.{eqb-false}
+use Rattle.std.proofs.lemmas.List.{set_split}
+use Rattle.std.specs.Int.Bits.{bit_or}
+use Rattle.std.specs.List.{fold}
+use Rattle.std.specs.Simd.{first_chunks}
 use Rattle.fields.specs.Part.{part, splice, zeros}
 use Rattle.fields.specs.Number.{value, digits, get_le, put_le, Bytes, Loaded}
-use Rattle.fields.proofs.Parts.{Apart, part_in, part_out, splice_in, splice_out, length_part, length_splice, part_splice_same, part_splice_other, part_join, splice_join, splice_again, splice_apart}
+use Rattle.fields.proofs.Parts.{Apart, part_in, part_out, splice_in, splice_out, length_part, length_splice, part_splice_same, part_splice_other, part_join, splice_join, splice_again, splice_apart, none_set, zeros_append}
 
 -- ---- numbers and their bytes
 
@@ -22,6 +19,22 @@ pub length_digits : (width v : ℕ) → length (digits width v) ≡ width
 unfolding digits
 length_digits zero v = refl
 length_digits (suc width) v = ap suc (length_digits width (v / 256))
+
+-- what does not fit is cut off
+digits_more : (width v k : ℕ) → digits width (v + 256 ^ width * k) ≡ digits width v
+unfolding digits
+digits_more zero v k = refl
+digits_more (suc width) v k =
+    let q = 256 ^ width * k in
+    let more : 256 ^ suc width * k ≡ 256 * q = ap (λ (n : ℕ). n * k) (pow-succ' 256 width) ∙ mul_assoc 256 (256 ^ width) k in
+    let low : (v + 256 ^ suc width * k) % 256 ≡ v % 256 = omega (arith, more) in
+    let high : (v + 256 ^ suc width * k) / 256 ≡ v / 256 + q = omega (arith, more) in
+    ap₂ ◌∷◌ low (ap (digits width) high ∙ digits_more width (v / 256) k)
+
+pub digits_low : (width v : ℕ) → digits width (v % 256 ^ width) ≡ digits width v
+digits_low width v =
+    let p = 256 ^ width in
+    sym (digits_more width (v % p) (v / p)) ∙ ap (digits width) (mod-add-div v p)
 
 pub value_digits : (width v : ℕ) → v < 256 ^ width → value (digits width v) ≡ v
 unfolding digits value
@@ -72,6 +85,10 @@ get_out width bs at h = ap value (part_out bs at width h)
 pub put_out : (width : ℕ) (bs : List ℕ) (at v : ℕ) → length bs < at + width → put_le width bs at v ≡ bs
 unfolding put_le
 put_out width bs at v h = splice_out bs at (digits width v) (simp length_digits h)
+
+pub put_low : (width : ℕ) (bs : List ℕ) (at v : ℕ) → put_le width bs at (v % 256 ^ width) ≡ put_le width bs at v
+unfolding put_le
+put_low width bs at v = ap (splice bs at) (digits_low width v)
 
 -- the last of two stores to one place stands
 pub put_put_same : (width : ℕ) (bs : List ℕ) (at v w : ℕ) → put_le width (put_le width bs at v) at w ≡ put_le width bs at w
@@ -131,6 +148,9 @@ pub put_byte : (bs : List ℕ) (at v : ℕ) → at < length bs → put_le 1 bs a
 unfolding put_le digits
 put_byte bs at v h = splice_in bs at (v % 256 ∷ []) (omega arith) ∙ simp add-one (sym (set_split bs at (v % 256) h))
 
+pub put_one : (bs : List ℕ) (at : ℕ) {v : ℕ} → at < length bs → v < 256 → put_le 1 bs at v ≡ set bs at v
+put_one bs at {v} h small = let low : v % 256 ≡ v = omega arith in put_byte bs at v h ∙ ap (set bs at) low
+
 -- ---- bytes that are all zero
 
 pub zeros_value : (bs : List ℕ) → zeros bs ≡ eqb (value bs) 0
@@ -143,28 +163,68 @@ zeros_value (b ∷ bs) = ap (λ (t : Bool). eqb b 0 && t) (zeros_value bs) ∙ g
     go true false e f = sym (ne_eqb (b + 256 * value bs) 0 (λ z. eqb-false (value bs) 0 f (omega arith)))
     go false t e f = sym (ne_eqb (b + 256 * value bs) 0 (λ z. eqb-false b 0 e (omega arith)))
 
--- ---- what the loads are made of: nothing outside, one byte, and two halves of w bytes each
+-- the same of a number read from as many bytes
+zeros_word : (bs : List ℕ) → length bs ≡ 8 → eqb (get_le 8 bs 0) 0 ≡ zeros bs
+unfolding get_le
+zeros_word bs h =
+    ap (λ (l : List ℕ). eqb (value l) 0) (part_in bs 0 8 (omega (arith, h)) ∙ ap (λ (n : ℕ). take n bs) (sym h) ∙ take-length bs) ∙ sym (zeros_value bs)
 
-power_pos : (w : ℕ) → 0 < 256 ^ w
+-- what numbers of 8 bytes have set among them, and `seen`, is nothing exactly if all their bytes are 0
+zeros_words : (k seen : ℕ) (bs : List ℕ) → k * 8 ≤ length bs
+    → eqb (fold (λ set word. bit_or set (get_le 8 word 0)) seen (first_chunks 8 k bs)) 0 ≡ (eqb seen 0 && zeros (take (k * 8) bs))
+unfolding zeros
+zeros_words zero seen bs h = sym (and-true (eqb seen 0))
+zeros_words (suc k) seen bs h =
+    let first = take 8 bs in
+    let later = take (k * 8) (drop 8 bs) in
+    let next = get_le 8 first 0 in
+    let more : 8 + k * 8 ≡ suc k * 8 = omega arith in
+    zeros_words k (bit_or seen next) (drop 8 bs) (simp length-drop (omega arith))
+    ∙ ap (λ (t : Bool). t && zeros later) (none_set seen next ∙ ap (λ (t : Bool). eqb seen 0 && t) (zeros_word first (simp length-take (omega arith))))
+    ∙ and_assoc (eqb seen 0) (zeros first) (zeros later)
+    ∙ ap (λ (t : Bool). eqb seen 0 && t) (sym (zeros_append first later) ∙ ap zeros (sym (take-add 8 (k * 8) bs) ∙ ap (λ (n : ℕ). take n bs) more))
+
+-- bytes are all 0 exactly if the numbers of 8 bytes are and the rest is
+pub zeros_split : (bs : List ℕ)
+    → zeros bs
+    ≡ (eqb (fold (λ set word. bit_or set (get_le 8 word 0)) 0 (first_chunks 8 (length bs / 8) bs)) 0 && zeros (drop (length bs / 8 * 8) bs))
+zeros_split bs =
+    let n = length bs / 8 * 8 in
+    ap zeros (sym (take-append-drop n bs))
+    ∙ zeros_append (take n bs) (drop n bs)
+    ∙ ap (λ (t : Bool). t && zeros (drop n bs)) (sym (zeros_words (length bs / 8) 0 bs (omega arith)))
+
+pub power_pos : (w : ℕ) → 0 < 256 ^ w
 power_pos zero = omega arith
 power_pos (suc w) = omega (arith, pow-suc 256 w, power_pos w)
 
-pub load_absent : (w : ℕ) (bs : List ℕ) (at : ℕ) → length bs < at + w → Loaded w bs at 0
-load_absent w bs at h = record { is = sym (get_out w bs at h); fits = power_pos w }
+-- ---- what the loads and stores are made of: two halves of w bytes each
 
-pub load_byte : (bs : List ℕ) (at : ℕ) → at < length bs → get_or bs at 0 < 256 → Loaded 1 bs at (get_or bs at 0)
-load_byte bs at h small = record { is = sym (get_byte bs at h); fits = small }
+pub load_joined : (w : ℕ) (bs : List ℕ) (at : ℕ) {lo hi : ℕ} → lo ≡ get_le w bs at → hi ≡ get_le w bs (at + w) → at + (w + w) ≤ length bs
+    → lo + hi * 256 ^ w ≡ get_le (w + w) bs at
+load_joined w bs at {lo} {hi} low high h =
+    ap₂ (λ (x y : ℕ). x + y * 256 ^ w) low high
+    ∙ ap (λ (n : ℕ). get_le w bs at + n) (mul_comm (get_le w bs (at + w)) (256 ^ w))
+    ∙ sym (get_join w w bs at h)
+
+-- the lists before, between and after two stores, of the low and of the high half of v
+pub store_joined : (w : ℕ) (bs : List ℕ) (at v : ℕ) {mid last : List ℕ} → mid ≡ put_le w bs at (v % 256 ^ w)
+    → last ≡ put_le w mid (at + w) (v / 256 ^ w) → at + (w + w) ≤ length bs → last ≡ put_le (w + w) bs at v
+store_joined w bs at v first second h =
+    second
+    ∙ ap (λ (l : List ℕ). put_le w l (at + w) (v / 256 ^ w)) (first ∙ put_low w bs at v)
+    ∙ put_join w w bs at v h
+
+-- ---- the same of a number that fits, and of a value that is cut to its half
 
 pub load_halves : (w : ℕ) {bs : List ℕ} {at lo hi : ℕ} → Loaded w bs at lo → Loaded w bs (at + w) hi → at + (w + w) ≤ length bs
     → Loaded (w + w) bs at (lo + hi * 256 ^ w)
 load_halves w {bs} {at} {lo} {hi} a b h =
     record {
-      is = ap₂ (λ (x y : ℕ). x + y * 256 ^ w) a.is b.is ∙ ap (λ (n : ℕ). get_le w bs at + n) (mul_comm (get_le w bs (at + w)) (256 ^ w)) ∙ sym (get_join w w bs at h);
+      is = load_joined w bs at a.is b.is h;
       fits = simp pow-add (omega (arith, mul-le-mul_right (256 ^ w) b.fits, suc-mul hi (256 ^ w)));
     }
 
--- the lists before, between and after two stores
 pub store_halves : (w : ℕ) (bs : List ℕ) (at v : ℕ) {mid last : List ℕ} → mid ≡ put_le w bs at v → last ≡ put_le w mid (at + w) (v / 256 ^ w)
     → at + (w + w) ≤ length bs → last ≡ put_le (w + w) bs at v
-store_halves w bs at v first second h =
-    second ∙ ap (λ (l : List ℕ). put_le w l (at + w) (v / 256 ^ w)) first ∙ put_join w w bs at v h
+store_halves w bs at v first second h = store_joined w bs at v (first ∙ sym (put_low w bs at v)) second h

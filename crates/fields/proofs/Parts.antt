@@ -1,13 +1,13 @@
 -- The laws of parts: what a part reads after a store, and parts of two lists in a row. Each is stated for every place and count. Assumes nothing.
-use mathlib.Core.Bool.{Bool, true, false, ◌&&◌, and_assoc, and-eq-true_iff}
-use mathlib.Core.List.{List, [], ◌∷◌, ◌++◌, append_assoc, append-nil}
-use mathlib.Core.Path.{◌≡◌, refl, sym, ap, ap₂, ◌∙◌}
-use Prim.Native.Nat.{ℕ, zero, suc, ◌+◌, ◌-◌, ◌≤◌, ◌<◌}
-use native.Mathlib.Omega.{arith}
-use lib.Dec.{leb, eqb}
-use lib.ListN.{length, take, drop, length-append, length-take, length-drop, take-append-drop, drop_of_length-le, replicate}
-use lib.Seq.{take-append-le, drop-append-le, take-append-add, drop-append-add, take-append_seam, drop-drop, take-add, length-take-le, drop_at}
-use borrow.Author.Tests.{leb-true, leb-false, le-leb, lt-leb, eqb-true}
+use Rattle.std.proofs.Common.{◌≡◌, ℕ, zero, suc, ◌+◌, ◌-◌, ◌<◌, ◌≤◌, Bool, true, false, ◌&&◌, eqb, leb, List, [], ◌∷◌, ◌++◌, length, take, drop, replicate, sym, refl, ap, ◌∙◌, ap₂, append_assoc, append-nil, arith, length-append, length-drop, take-append-drop, drop_of_length-le, length-take, length-take-le, drop-drop, take-add, drop_at, ne_eqb, eqb-true, le-leb, leb-false, leb-true}
+use Rattle.std.proofs.Math.Bool.{and_assoc, and-eq-true_iff}
+use Rattle.std.proofs.Math.Seq.{take-append-add, drop-append-add, take-append_seam}
+use Rattle.std.proofs.lemmas.Bool.{lt-leb, eqb-false}
+use Rattle.std.proofs.lemmas.List.{take-append-le, drop-append-le}
+use Rattle.std.proofs.lemmas.Nat.{le_or_l}
+use Rattle.std.specs.Int.Bits.{bit_or}
+use Rattle.std.specs.List.{list_all}
+use borrow.Rule.Slice.PartMut.{put_mid}
 use Rattle.fields.specs.Part.{part, splice, zeros}
 
 -- the places from a, m of them, and those from b, n of them, have none in common
@@ -132,6 +132,12 @@ splice_append_right a r at new =
     ∙ simp (splice_in r at new h, append_assoc))
     (λ h. splice_out (a ++ r) (length a + at) new (simp length-append (omega arith)) ∙ simp (splice_out r at new h))
 
+-- what a write to `b[at..at + count]` leaves
+pub splice_mid : (at count : ℕ) (bs : List ℕ) {written : List ℕ} (new : List ℕ) → at + length new ≤ length bs → count ≡ length new
+    → written ≡ new → put_mid at count bs written ≡ splice bs at new
+splice_mid at count bs {written} new h n e =
+    simp (e, n, drop-drop) (sym (splice_in bs at new h))
+
 -- ---- a part, and a store, in two pieces
 
 pub part_join : (bs : List ℕ) (at m n : ℕ) → at + (m + n) ≤ length bs → part bs at (m + n) ≡ part bs at m ++ part bs (at + m) n
@@ -248,3 +254,17 @@ pub zeros_all : (bs : List ℕ) → zeros bs ≡ true → bs ≡ replicate (leng
 unfolding zeros
 zeros_all [] e = refl
 zeros_all (b ∷ bs) e = let h = (and-eq-true_iff (eqb b 0) (zeros bs)).0 e in ap₂ ◌∷◌ (eqb-true b 0 h.0) (zeros_all bs h.1)
+
+-- what two numbers have set between them is nothing exactly if both are 0
+pub none_set : (a b : ℕ) → eqb (bit_or a b) 0 ≡ (eqb a 0 && eqb b 0)
+none_set a b = go (eqb a 0) refl
+  where
+    go : (t : Bool) → eqb a 0 ≡ t → eqb (bit_or a b) 0 ≡ (t && eqb b 0)
+    go true e = ap (λ (n : ℕ). eqb (bit_or n b) 0) (eqb-true a 0 e)
+    go false e = ne_eqb (bit_or a b) 0 (λ z. eqb-false a 0 e (omega (arith, z, le_or_l a b)))
+
+-- byte by byte
+pub zeros_each : (bs : List ℕ) → list_all (λ b. eqb b 0) bs ≡ zeros bs
+unfolding zeros
+zeros_each [] = refl
+zeros_each (b ∷ bs) = ap (λ (t : Bool). eqb b 0 && t) (zeros_each bs)

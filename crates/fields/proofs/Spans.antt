@@ -1,9 +1,5 @@
 -- A part of a list that is lent and comes back: numbers read and stored in it are numbers of the list. Assumes nothing.
-use mathlib.Core.List.{List, ◌++◌}
-use mathlib.Core.Path.{◌≡◌, sym, ap, ap₂, ◌∙◌}
-use Prim.Native.Nat.{ℕ, ◌+◌, ◌≤◌}
-use native.Mathlib.Omega.{arith}
-use lib.ListN.{length, take, drop, length-take, length-drop, take-append-drop}
+use Rattle.std.proofs.Common.{◌≡◌, ℕ, ◌+◌, ◌≤◌, List, ◌++◌, length, take, drop, sym, ap, ◌∙◌, ap₂, arith, length-drop, take-append-drop, length-take}
 use Rattle.fields.specs.Part.{part}
 use Rattle.fields.specs.Number.{value, digits, get_le, put_le}
 use Rattle.fields.proofs.Parts.{part_append_left, part_append_right, splice_append_left, splice_append_right}

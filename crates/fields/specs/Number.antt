@@ -25,7 +25,7 @@ put_le width bs at v = splice bs at (digits width v)
 pub record Bytes (bs : List ℕ) : Type 0 where
   pub below : (i : ℕ) → get_or bs i 0 < 256
 
--- what a load within the slice promises: r is the number there, and fits its width
+-- a number r that is the one in `width` bytes there, and fits its width
 pub record Loaded (width : ℕ) (bs : List ℕ) (at r : ℕ) : Type 0 where
   pub is : r ≡ get_le width bs at
   pub fits : r < 256 ^ width

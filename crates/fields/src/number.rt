@@ -1,164 +1,133 @@
-// Little-endian numbers of 1, 2, 4 and 8 bytes in a byte slice. A wide load or store is two of half
-// the width, so that one law over the width proves them all; compiled, each is one load or store.
-ghost use Rattle.std.specs.Prelude.{◌≡◌, ◌+◌, ◌-◌, ◌≤◌, ◌<◌, length};
-ghost use Rattle.fields.specs.Number.{get_le, put_le, Loaded};
+// Little-endian numbers of 1, 2, 4 and 8 bytes in a byte slice: one trait for their types, and a load
+// and a store for them all. A wide load or store is two of half the width, so that one law over the
+// width proves them all; compiled, each is one load or store behind one comparison. `from_le_bytes` would
+// want the bytes as an array, named one by one, and a law for each width.
+ghost use Rattle.std.specs.Prelude.{◌≡◌, ◌+◌, ◌≤◌, ℕ, length};
+ghost use Rattle.fields.specs.Number.{get_le, put_le};
 
-fn load1(b: &[u8], at: usize) -> u64
-    requires { at + 1 ≤ length b.now }
-    ensures { Loaded 1 b.now at result }
-{
-    b[at] as u64
+use super::part::within;
+
+// A type of numbers that stand in `WIDTH` bytes. The loads and stores here are those within the
+// slice; `get` and `put` are for every place.
+pub trait Number: Copy + Default {
+    ghost WIDTH: { ℕ };
+
+    const WIDTH: usize;
+
+    ghost value: { Self → ℕ };
+
+    fn load(b: &[u8], at: usize) -> Self
+        requires { at + WIDTH ≤ length b.now }
+        ensures { value result ≡ get_le WIDTH b.now at };
+
+    fn store(self, b: &mut [u8], at: usize)
+        requires { at + WIDTH ≤ length b.old }
+        ensures { b.new ≡ put_le WIDTH b.old at (value self) };
+
+    ghost default_is_zero: { (v : Self) → Self.is_default v → value v ≡ 0 };
 }
 
-fn load2(b: &[u8], at: usize) -> u64
-    requires { at + 2 ≤ length b.now }
-    ensures { Loaded 2 b.now at result }
-{
-    load1(b, at) + load1(b, at + 1) * 256
-}
+impl Number for u8 {
+    ghost WIDTH = { 1 };
 
-fn load4(b: &[u8], at: usize) -> u64
-    requires { at + 4 ≤ length b.now }
-    ensures { Loaded 4 b.now at result }
-{
-    load2(b, at) + load2(b, at + 2) * 65_536
-}
+    const WIDTH: usize = 1;
 
-pub fn load8(b: &[u8], at: usize) -> u64
-    requires { at + 8 ≤ length b.now }
-    ensures { Loaded 8 b.now at result }
-{
-    load4(b, at) + load4(b, at + 4) * 4_294_967_296
-}
+    ghost value = { λ v. v };
 
-fn store1(b: &mut [u8], at: usize, v: u64)
-    requires { at + 1 ≤ length b.old }
-    ensures { b.new ≡ put_le 1 b.old at v }
-{
-    b[at] = (v % 256) as u8;
-}
+    ghost default_is_zero = { λ v is_zero. is_zero };
 
-fn store2(b: &mut [u8], at: usize, v: u64)
-    requires { at + 2 ≤ length b.old }
-    ensures { b.new ≡ put_le 2 b.old at v }
-{
-    store1(b, at, v);
-    store1(b, at + 1, v / 256);
-}
-
-fn store4(b: &mut [u8], at: usize, v: u64)
-    requires { at + 4 ≤ length b.old }
-    ensures { b.new ≡ put_le 4 b.old at v }
-{
-    store2(b, at, v);
-    store2(b, at + 2, v / 65_536);
-}
-
-fn store8(b: &mut [u8], at: usize, v: u64)
-    requires { at + 8 ≤ length b.old }
-    ensures { b.new ≡ put_le 8 b.old at v }
-{
-    store4(b, at, v);
-    store4(b, at + 4, v / 4_294_967_296);
-}
-
-// How many places of `b` a number of `width` bytes can stand at. It does not depend on the place, so
-// a loop that reads many fields works it out once, and each read is one comparison and a load.
-fn places(b: &[u8], width: usize) -> usize
-    ensures { result ≡ length b.now + 1 - width }
-{
-    if width <= b.len() {
-        return b.len() - width + 1;
+    #[inline(always)]
+    fn load(b: &[u8], at: usize) -> u8 {
+        b[at]
     }
-    0
-}
 
-// What a number that does not lie within `b` reads as.
-fn absent(b: &[u8], at: usize, width: usize) -> u64
-    requires { length b.now < at + width }
-    ensures { Loaded width b.now at result }
-{
-    0
-}
-
-// What a store of a number that does not lie within `b` does: nothing.
-fn keep(b: &mut [u8], at: usize, width: usize, v: u64)
-    requires { length b.old < at + width }
-    ensures { b.new ≡ put_le width b.old at v }
-{}
-
-pub fn get_u8(b: &[u8], at: usize) -> u8
-    ensures { result ≡ get_le 1 b.now at }
-{
-    if at < places(b, 1) {
-        return load1(b, at) as u8;
+    #[inline(always)]
+    fn store(self, b: &mut [u8], at: usize) {
+        b[at] = self;
     }
-    absent(b, at, 1) as u8
 }
 
-pub fn get_u16(b: &[u8], at: usize) -> u16
-    ensures { result ≡ get_le 2 b.now at }
-{
-    if at < places(b, 2) {
-        return load2(b, at) as u16;
+impl Number for u16 {
+    ghost WIDTH = { 2 };
+
+    const WIDTH: usize = 2;
+
+    ghost value = { λ v. v };
+
+    ghost default_is_zero = { λ v is_zero. is_zero };
+
+    #[inline(always)]
+    fn load(b: &[u8], at: usize) -> u16 {
+        u8::load(b, at) as u16 + u8::load(b, at + 1) as u16 * 256
     }
-    absent(b, at, 2) as u16
+
+    #[inline(always)]
+    fn store(self, b: &mut [u8], at: usize) {
+        ((self % 256) as u8).store(b, at);
+        ((self / 256) as u8).store(b, at + 1);
+    }
 }
 
-pub fn get_u32(b: &[u8], at: usize) -> u32
-    ensures { result ≡ get_le 4 b.now at }
-{
-    if at < places(b, 4) {
-        return load4(b, at) as u32;
+impl Number for u32 {
+    ghost WIDTH = { 4 };
+
+    const WIDTH: usize = 4;
+
+    ghost value = { λ v. v };
+
+    ghost default_is_zero = { λ v is_zero. is_zero };
+
+    #[inline(always)]
+    fn load(b: &[u8], at: usize) -> u32 {
+        u16::load(b, at) as u32 + u16::load(b, at + 2) as u32 * 65_536
     }
-    absent(b, at, 4) as u32
+
+    #[inline(always)]
+    fn store(self, b: &mut [u8], at: usize) {
+        ((self % 65_536) as u16).store(b, at);
+        ((self / 65_536) as u16).store(b, at + 2);
+    }
 }
 
-pub fn get_u64(b: &[u8], at: usize) -> u64
-    ensures { result ≡ get_le 8 b.now at }
-{
-    if at < places(b, 8) {
-        return load8(b, at);
+impl Number for u64 {
+    ghost WIDTH = { 8 };
+
+    const WIDTH: usize = 8;
+
+    ghost value = { λ v. v };
+
+    ghost default_is_zero = { λ v is_zero. is_zero };
+
+    #[inline(always)]
+    fn load(b: &[u8], at: usize) -> u64 {
+        u32::load(b, at) as u64 + u32::load(b, at + 4) as u64 * 4_294_967_296
     }
-    absent(b, at, 8)
+
+    #[inline(always)]
+    fn store(self, b: &mut [u8], at: usize) {
+        ((self % 4_294_967_296) as u32).store(b, at);
+        ((self / 4_294_967_296) as u32).store(b, at + 4);
+    }
 }
 
-pub fn put_u8(b: &mut [u8], at: usize, v: u8)
-    ensures { b.new ≡ put_le 1 b.old at v }
+// The number at `at`; 0 if it does not lie within `b`.
+#[inline(always)]
+pub fn get<T: Number>(b: &[u8], at: usize) -> T
+    ensures { T.value result ≡ get_le T.WIDTH b.now at }
 {
-    if at < places(b, 1) {
-        store1(b, at, v as u64);
-        return;
+    if within(b, at, T::WIDTH) {
+        T::load(b, at)
+    } else {
+        T::default()
     }
-    keep(b, at, 1, v as u64);
 }
 
-pub fn put_u16(b: &mut [u8], at: usize, v: u16)
-    ensures { b.new ≡ put_le 2 b.old at v }
+// Stores `v` at `at`; nothing if it does not lie within `b`.
+#[inline(always)]
+pub fn put<T: Number>(b: &mut [u8], at: usize, v: T)
+    ensures { b.new ≡ put_le T.WIDTH b.old at (T.value v) }
 {
-    if at < places(b, 2) {
-        store2(b, at, v as u64);
-        return;
+    if within(b, at, T::WIDTH) {
+        v.store(b, at);
     }
-    keep(b, at, 2, v as u64);
-}
-
-pub fn put_u32(b: &mut [u8], at: usize, v: u32)
-    ensures { b.new ≡ put_le 4 b.old at v }
-{
-    if at < places(b, 4) {
-        store4(b, at, v as u64);
-        return;
-    }
-    keep(b, at, 4, v as u64);
-}
-
-pub fn put_u64(b: &mut [u8], at: usize, v: u64)
-    ensures { b.new ≡ put_le 8 b.old at v }
-{
-    if at < places(b, 8) {
-        store8(b, at, v);
-        return;
-    }
-    keep(b, at, 8, v);
 }

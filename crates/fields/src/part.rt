@@ -4,32 +4,27 @@
 ghost use Rattle.std.specs.Prelude.{◌≡◌, ◌+◌, leb, length, replicate};
 ghost use Rattle.fields.specs.Part.{part, splice, zeros};
 
-use super::number::load8;
+use super::number::get;
 
-// Whether the `count` bytes from `at` on lie within `b`.
+// Whether the `count` bytes from `at` on lie within `b`. How many places such a part can stand at does
+// not depend on `at`, so a loop that reads many fields works it out once, and each read is one
+// comparison.
+#[inline(always)]
 pub fn within(b: &[u8], at: usize, count: usize) -> bool
     ensures { result ≡ leb (at + count) (length b.now) }
 {
-    if b.len() < count {
-        return false;
-    }
-    if b.len() - count < at {
-        return false;
-    }
-    true
+    at < (b.len() + 1).saturating_sub(count)
 }
 
-// Copies `src` into `b` from `at` on.
+// Copies `src` into `b` from `at` on. By a loop, which compiles to memcpy: `copy_from_slice` compiles to memmove, which
+// include/zimatuno.h says to C that the library does without.
 pub fn copy_in(b: &mut [u8], at: usize, src: &[u8])
     ensures { b.new ≡ splice b.old at src.now }
 {
-    if !within(b, at, src.len()) {
-        return;
-    }
-    let mut i: usize = 0;
-    while i < src.len() {
-        b[at + i] = src[i];
-        i += 1;
+    if within(b, at, src.len()) {
+        for i in 0..src.len() {
+            b[at + i] = src[i];
+        }
     }
 }
 
@@ -37,35 +32,24 @@ pub fn copy_in(b: &mut [u8], at: usize, src: &[u8])
 pub fn zero_out(b: &mut [u8], at: usize, count: usize)
     ensures { b.new ≡ splice b.old at (replicate count 0) }
 {
-    if !within(b, at, count) {
-        return;
-    }
-    let mut i: usize = 0;
-    while i < count {
-        b[at + i] = 0;
-        i += 1;
+    if within(b, at, count) {
+        b[at..at + count].fill(0);
     }
 }
 
-// Whether the `count` bytes from `at` on are all 0; eight at a time, then the rest one by one.
+// Whether the bytes are all 0. Most are taken eight at a time as numbers, of which it asks what they have
+// set among them all: a run of zeros is read to its end in any case, and a test at each number costs more.
+fn are_zero(bytes: &[u8]) -> bool
+    ensures { result ≡ zeros bytes.now }
+{
+    let (words, rest) = bytes.as_chunks::<8>();
+    let set = words.iter().fold(0, |set, word| set | get::<u64>(word, 0));
+    set == 0 && rest.iter().all(|byte| *byte == 0)
+}
+
+// Whether the `count` bytes from `at` on are all 0.
 pub fn all_zero(b: &[u8], at: usize, count: usize) -> bool
     ensures { result ≡ zeros (part b.now at count) }
 {
-    if !within(b, at, count) {
-        return true;
-    }
-    let mut i: usize = 0;
-    while 8 <= count - i {
-        if load8(b, at + i) != 0 {
-            return false;
-        }
-        i += 8;
-    }
-    while i < count {
-        if b[at + i] != 0 {
-            return false;
-        }
-        i += 1;
-    }
-    true
+    !within(b, at, count) || are_zero(&b[at..at + count])
 }

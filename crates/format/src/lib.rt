@@ -1,9 +1,10 @@
-// Format: the numbers of a pool, a batch and its answers by name, as docs/REFERENCE.md gives them, and rows of
-// tests in one expression (test.rt). Offsets and sizes are in bytes; an offset counts from the start of the
-// part that it is in.
+// Format: the numbers of a pool, a batch and its answers by name, as docs/REFERENCE.md gives them, and why a door
+// or a command is refused (refusal.rt). Offsets and sizes are in bytes; an offset counts from the start of the
+// part that it is in. The numbers of balances, kinds and ops are those that stand in the bytes of pools, batches
+// and answers; in code a kind is a `Cursor` (crate cursor), an op an `Op` (crate ops).
 #![tactic(auto)]
 
-pub mod test;
+pub mod refusal;
 
 // The header of a pool. The fields TABLE, RECORDS and TEXT hold the offsets of what follows it.
 pub mod header {
@@ -72,7 +73,8 @@ pub mod link {
     pub const PARENT: u8 = super::record::PARENT as u8;
 }
 
-// A record's balance: no side is higher, or which.
+// A record's balance: no side is higher, or which. A byte and no enum: a pool that is not sound may have any, and what
+// is read, compared and stored is the byte.
 pub mod balance {
     pub const EVEN: u8 = 0;
 
@@ -235,47 +237,4 @@ pub mod op {
     pub const RESET: u8 = 29;
 
     pub const LAST_NAMING_TREE: u8 = 11;
-}
-
-// The numbers returned.
-pub mod code {
-    pub const DONE: u8 = 0;
-
-    pub const DAMAGED: u8 = 1;
-
-    pub const BAD_BATCH: u8 = 2;
-
-    pub const BAD_OUT: u8 = 3;
-
-    pub const BAD_SIZE: u8 = 4;
-
-    pub const BAD_OP: u8 = 10;
-
-    pub const BAD_TREE: u8 = 11;
-
-    pub const BAD_CURSOR: u8 = 12;
-
-    pub const BAD_NAME: u8 = 13;
-
-    pub const BAD_SLOT: u8 = 14;
-
-    pub const STALE: u8 = 15;
-
-    pub const OTHER_TREE: u8 = 16;
-
-    pub const PRESENT: u8 = 17;
-
-    pub const ORDER: u8 = 18;
-
-    pub const NONE: u8 = 19;
-
-    pub const NO_SLOT: u8 = 20;
-
-    pub const NO_TEXT: u8 = 21;
-
-    pub const NO_STAMP: u8 = 22;
-
-    pub const NO_MARK: u8 = 23;
-
-    pub const MARK_OPEN: u8 = 24;
 }

@@ -1,65 +1,34 @@
--- One change undone, the changes undone turn by turn, and a mark rolled back. Assumes nothing.
-use mathlib.Core.Bool.{true, false}
-use mathlib.Core.List.{List}
-use mathlib.Core.Path.{◌≡◌, refl, ◌∙◌}
-use Prim.Native.Nat.{ℕ, zero, suc, ◌-◌, ◌≤◌}
-use native.Mathlib.Numerals.{unary_clauses}
-use native.Mathlib.Omega.{arith}
-use lib.ListN.{length, get_or}
-use Rattle.avl.specs.Tree.{right}
-use Rattle.tree.specs.Search.{Ending, seek_n}
-use Rattle.tree.specs.declared.node.AvlTree.{AvlTree}
-use Rattle.slots.specs.Record.{record_n}
-use Rattle.slots.specs.Head.{tree_n}
-use Rattle.slots.specs.Change.{Image, put_rec_n, drop_rec_n, cut_n}
+-- The changes undone, the last first, whatever stands behind them. Assumes nothing.
+use Rattle.std.proofs.Common.{◌≡◌, ℕ, zero, suc, ◌≤◌, List, [], ◌∷◌, ◌++◌, length, sym, refl, ap, ◌∙◌, arith, length-append}
+use Rattle.std.proofs.Math.ListN.{get_or-append}
+use Rattle.std.proofs.Math.Seq.{get_or-append_seam}
+use Rattle.slots.specs.Change.{Image}
 use Rattle.slots.specs.declared.head.Head.{Head}
-use Rattle.slots.specs.declared.record.Record.{Record}
-use Rattle.journal.specs.Journal.{no_entry, entry_rec, undo_one_n, undo_n, roll_back_n}
+use Rattle.journal.specs.Journal.{no_entry, undo_one_n, undo_n}
 use Rattle.journal.specs.declared.Entry.{Entry}
 
-module _ (m : List ℕ) (h : Head) (e : Entry) where
-  -- An added record is removed.
-  pub undo_added : e.added ≡ true → {v : Record} {o : Image} → v ≡ record_n m e.slot → o ≡ drop_rec_n m h e.slot v.tree
-      → o ≡ undo_one_n m h e
-  unfolding undo_one_n
-  undo_added t e1 e2 = simp t (cc)
-
-  -- A removed one goes back.
-  pub undo_removed : e.added ≡ false → {t : AvlTree} {s : Ending} {o : Image} → t ≡ tree_n h.table e.home
-      → s ≡ seek_n 14 m e.key t.root 0 right 0 → o ≡ put_rec_n m h e.slot (entry_rec e) s.above s.side → o ≡ undo_one_n m h e
-  unfolding undo_one_n
-  undo_removed f e1 e2 e3 = simp f (cc)
-
--- ---- the changes, last first
-
--- With i changes left: what is left to undo gives what all of them give, and the body keeps its length.
-pub record Undoing (m₀ : List ℕ) (es : List Entry) (all : Image) (m : List ℕ) (h : Head) (i : ℕ) : Type 0 where
-  pub most : i ≤ 256
-  pub same : undo_n i m h es ≡ all
-  pub size : length m ≡ length m₀
-
-undo_turn : (m : List ℕ) (h : Head) (es : List Entry) (i : ℕ) (o : Image) → (i ≡ 0 → ⊥) → o ≡ undo_one_n m h (get_or es (i - 1) no_entry)
-    → undo_n (i - 1) o.0 o.1 es ≡ undo_n i m h es
+-- Changes behind the first n are not undone with them.
+pub undo_front : (n : ℕ) (m : List ℕ) (h : Head) (es fs : List Entry) → n ≤ length es → undo_n n m h (es ++ fs) ≡ undo_n n m h es
 unfolding undo_n
-undo_turn m h es zero o z e = absurd (z refl)
-undo_turn m h es (suc i) o z e = let q : o ≡ undo_one_n m h (get_or es i no_entry) = simp unary_clauses at e in simp (unary_clauses, ← q)
+undo_front zero m h es fs l = refl
+undo_front (suc n) m h es fs l =
+    ap (λ (e : Entry). let o = undo_one_n m h e in undo_n n o.0 o.1 (es ++ fs)) (get_or-append es fs no_entry n l)
+    ∙ undo_front n _ _ es fs (omega (arith, l))
 
-module _ {m₀ : List ℕ} {es : List Entry} {all : Image} {m : List ℕ} {h : Head} {i : ℕ} (inv : Undoing m₀ es all m h i) where
-  -- One change more is undone.
-  pub undo_on : (i ≡ 0 → ⊥) → {o : Image} → o ≡ undo_one_n m h (get_or es (i - 1) no_entry) → length o.0 ≡ length m
-      → Undoing m₀ es all o.0 o.1 (i - 1)
-  undo_on z {o} e k =
-      record { most = omega (arith, inv.most); same = undo_turn m h es i o z e ∙ inv.same; size = k ∙ inv.size }
+-- The last change undone: those before it give what all of them give.
+pub undo_on : (m : List ℕ) (h : Head) {all : Image} {left : List Entry} (rest : List Entry) (e : Entry) {o : Image} → left ≡ rest ++ e ∷ [] → o ≡ undo_one_n m h e
+    → undo_n (length left) m h left ≡ all → undo_n (length rest) o.0 o.1 rest ≡ all
+unfolding undo_n
+undo_on m h rest e {o = o} i step inv =
+    let es = rest ++ e ∷ [] in
+    let long : length es ≡ suc (length rest) = omega (arith, length-append rest (e ∷ [])) in
+    sym (undo_front (length rest) o.0 o.1 rest (e ∷ []) (omega arith))
+    ∙ ap (λ (u : Image). undo_n (length rest) u.0 u.1 es) step
+    ∙ ap (λ (x : Entry). let u = undo_one_n m h x in undo_n (length rest) u.0 u.1 es) (sym (get_or-append_seam rest e [] no_entry))
+    ∙ ap (λ (k : ℕ). undo_n k m h es) (sym long)
+    ∙ (rw i at inv)
 
-  -- None is left.
-  pub undo_end : i ≡ 0 → ◌≡◌ {A = Image} (m, h) all
-  unfolding undo_n
-  undo_end z = rw z at inv.same
-
--- ---- a mark rolled back
-
--- What `roll_back` calls, in its order.
-pub roll_steps : (n : ℕ) (m : List ℕ) (h : Head) (used : ℕ) (es : List Entry) {o u : Image} → o ≡ undo_n n m h es → u ≡ cut_n o.0 o.1 used
-    → u ≡ roll_back_n n m h used es
-unfolding roll_back_n
-roll_steps n m h used es e1 e2 = (cc)
+-- None is left.
+pub undo_end : (m : List ℕ) (h : Head) {all : Image} (left : List Entry) → length left ≡ 0 → undo_n (length left) m h left ≡ all → ◌≡◌ {A = Image} (m, h) all
+unfolding undo_n
+undo_end m h left none inv = rw none at inv

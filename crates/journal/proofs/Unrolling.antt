@@ -1,13 +1,9 @@
 -- A journal undone on the body and the head is the journal undone in the pool. A record that goes back may have its name and its stamp beyond the
 -- text and the next stamp of the pool under way, as far as the journal alone says; so each step is taken in the pool with all of its text in use and
 -- the highest next stamp, which has the same body. Assumes nothing.
-use mathlib.Core.Bool.{Bool, true, false, cond}
-use mathlib.Core.List.{List, ◌∷◌, ◌++◌, append-nil}
-use mathlib.Core.Option.{Option, some}
-use mathlib.Core.Path.{◌≡◌, refl, sym, ap, ap₂, ◌∙◌, subst}
-use Prim.Native.Nat.{ℕ, zero, suc, ◌+◌, ◌-◌, ◌≤◌}
-use native.Mathlib.Omega.{arith}
-use lib.ListN.{length, get_or, replicate, length-append, length-replicate}
+use Rattle.std.proofs.Common.{◌≡◌, ℕ, zero, suc, ◌+◌, ◌-◌, ◌≤◌, List, ◌∷◌, ◌++◌, length, get_or, replicate, sym, refl, ap, ◌∙◌, subst, ap₂, append-nil, arith, length-append}
+use Rattle.std.proofs.Math.Option.{Option, some}
+use Rattle.std.proofs.lemmas.List.{length-replicate}
 use Rattle.fields.specs.Number.{Bytes}
 use Rattle.avl.specs.Tree.{right}
 use Rattle.avl.specs.Search.{entry, compared}
@@ -37,8 +33,10 @@ use Rattle.slots.specs.declared.record.Record.{Record}
 use Rattle.slots.proofs.Changing.{put_image, drop_image}
 use Rattle.slots.proofs.Looking.{record_image, tree_image, entry_image}
 use Rattle.slots.proofs.Texts.{rows_as, cut_image}
-use Rattle.journal.specs.Journal.{no_entry, entry_rec, rec_of, change_of, changes_in, undo_one_n, undo_n, roll_back_n}
+use Rattle.journal.specs.Journal.{no_entry, rec_of, change_at, change_of, changes_in, undo_at_n, undo_one_n, undo_n, roll_back_n}
 use Rattle.journal.specs.declared.Entry.{Entry}
+use Rattle.journal.specs.declared.Noted.{Noted}
+use Rattle.journal.specs.declared.Noted.TheVariants.{Added, Removed}
 
 -- ---- the pool with all of its text in use and the highest next stamp
 
@@ -114,20 +112,13 @@ undone_n m h (added x) = drop_rec_n m h x (record_n m x).tree
 undone_n m h (removed x r) =
     let s = seek_n 14 m r.key (tree_n h.table r.tree).root 0 right 0 in put_rec_n m h x (record_of r) s.above s.side
 
+at_undone : (m : List ℕ) (h : Head) (x : ℕ) (c : Noted) → undo_at_n m h x c ≡ undone_n m h (change_at x c)
+unfolding undo_at_n undone_n change_at rec_of record_of
+at_undone m h x Added = refl
+at_undone m h x (Removed v) = refl
+
 one_undone : (m : List ℕ) (h : Head) (e : Entry) → undo_one_n m h e ≡ undone_n m h (change_of e)
-unfolding undo_one_n undone_n change_of rec_of record_of
-one_undone m h e = go e.added
-  where
-    v : Record
-    v = entry_rec e
-
-    s : Ending
-    s = seek_n 14 m v.key (tree_n h.table v.tree).root 0 right 0
-
-    go : (b : Bool) → cond b (drop_rec_n m h e.slot (record_n m e.slot).tree) (put_rec_n m h e.slot v s.above s.side)
-        ≡ undone_n m h (cond b (added e.slot) (removed e.slot (rec_of v)))
-    go true = refl
-    go false = refl
+one_undone m h e = at_undone m h e.slot e.change
 
 narrow_image : (p : Pool) → narrowed p (body_of (widened p), head_of (widened p)) ≡ (body_of p, head_of p)
 unfolding narrowed head_of widened with_next with_text live_count free_slot

@@ -1,6 +1,6 @@
 -- A model: what the code computes. No door's promise cites it, and it need not be believed.
 -- The entries of a journal: what they stand for in `meaning`, and how they are undone on the body and the head. Assumes nothing.
-use Rattle.std.specs.Prelude.{false, cond, List, [], ◌∷◌, ℕ, zero, suc, get_or}
+use Rattle.std.specs.Prelude.{List, [], ◌∷◌, ℕ, zero, suc, get_or}
 use Rattle.avl.specs.Tree.{right}
 use Rattle.tree.specs.Search.{seek_n}
 use Rattle.meaning.specs.Pool.{Rec}
@@ -11,13 +11,16 @@ use Rattle.slots.specs.Change.{Image, put_rec_n, drop_rec_n, cut_n}
 use Rattle.slots.specs.declared.head.Head.{Head}
 use Rattle.slots.specs.declared.record.Record.{Record}
 use Rattle.journal.specs.declared.Entry.{Entry}
+use Rattle.journal.specs.declared.Noted.{Noted}
+use Rattle.journal.specs.declared.Noted.TheVariants.{Added, Removed}
 
+-- what stands where a journal has no entry yet
 abbrev pub no_entry : Entry
-no_entry = record { key = 0; stamp = 0; start = 0; len = 0; slot = 0; home = 0; added = false; spare = 0 }
+no_entry = record { slot = 0; change = Added }
 
--- the record that an entry is about
-abbrev pub entry_rec : Entry → Record
-entry_rec e = record { key = e.key; stamp = e.stamp; start = e.start; len = e.len; tree = e.home }
+-- what a contract sees of a journal: its changes in their order
+pub record Changes : Type 0 where
+  pub items : List Entry
 
 -- ---- what entries stand for
 
@@ -25,9 +28,14 @@ entry_rec e = record { key = e.key; stamp = e.stamp; start = e.start; len = e.le
 unfoldable pub rec_of : Record → Rec
 rec_of v = record { tree = v.tree; key = v.key; stamp = v.stamp; start = v.start; len = v.len }
 
+-- what is noted of slot x
+unfoldable pub change_at : ℕ → Noted → Change
+change_at x Added = added x
+change_at x (Removed v) = removed x (rec_of v)
+
 -- what an entry of the journal says
-unfoldable pub change_of : Entry → Change
-change_of e = cond e.added (added e.slot) (removed e.slot (rec_of (entry_rec e)))
+abbrev pub change_of : Entry → Change
+change_of e = change_at e.slot e.change
 
 -- the first n entries, the last first
 unfoldable pub changes_in : ℕ → List Entry → List Change
@@ -37,13 +45,13 @@ changes_in (suc n) es = change_of (get_or es n no_entry) ∷ changes_in n es
 -- ---- entries undone
 
 -- an added record is removed; a removed one goes back into its slot and its tree
-unfoldable pub undo_one_n : List ℕ → Head → Entry → Image
-undo_one_n m h e =
-    let v = entry_rec e in
-    let s = seek_n 14 m v.key (tree_n h.table v.tree).root 0 right 0 in
-    let out = drop_rec_n m h e.slot (record_n m e.slot).tree in
-    let back = put_rec_n m h e.slot v s.above s.side in
-    cond e.added out back
+unfoldable pub undo_at_n : List ℕ → Head → ℕ → Noted → Image
+undo_at_n m h x Added = drop_rec_n m h x (record_n m x).tree
+undo_at_n m h x (Removed v) =
+    let s = seek_n 14 m v.key (tree_n h.table v.tree).root 0 right 0 in put_rec_n m h x v s.above s.side
+
+abbrev pub undo_one_n : List ℕ → Head → Entry → Image
+undo_one_n m h e = undo_at_n m h e.slot e.change
 
 -- the first n changes, last first
 unfoldable pub undo_n : ℕ → List ℕ → Head → List Entry → Image

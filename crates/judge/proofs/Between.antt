@@ -1,12 +1,7 @@
 -- The fields of a record in its row, and bounds as slots: what the tests of a record say of its key. Assumes nothing.
-use mathlib.Core.Path.{◌≡◌, refl, sym, ap, ◌∙◌}
-use mathlib.Core.Bool.{Bool, true, false, cond, ◌&&◌, and_assoc, false≢true}
-use mathlib.Core.List.{List}
-use Prim.Native.Nat.{ℕ, suc, ◌+◌, ◌*◌, ◌-◌, ◌<◌, ◌≤◌}
-use native.Mathlib.Omega.{arith}
-use lib.Dec.{eqb, leb, ltb}
-use lib.ListN.{length, take, drop}
-use borrow.Author.Tests.{eq-eqb, ne_eqb, le-leb, lt-leb, lt-ltb, ltb-true, ltb-false, eqb-false, leb-true}
+use Rattle.std.proofs.Common.{◌≡◌, ℕ, suc, ◌+◌, ◌-◌, ◌*◌, ◌<◌, ◌≤◌, Bool, true, false, cond, ◌&&◌, eqb, ltb, leb, List, length, sym, refl, ap, ◌∙◌, arith, ltb-false, ltb-true, lt-ltb, eq-eqb, ne_eqb, le-leb, leb-true}
+use Rattle.std.proofs.Math.Bool.{and_assoc}
+use Rattle.std.proofs.lemmas.Bool.{false≢true, lt-leb, eqb-false}
 use Rattle.fields.specs.Number.{get_le, Bytes}
 use Rattle.fields.proofs.Spans.{get_part}
 use Rattle.avl.specs.Tree.{left, right}
@@ -18,14 +13,6 @@ use Rattle.judge.proofs.SameWalk.{key_low, bound_turn}
 -- ---- the fields of a record, and the row that holds them
 
 module _ (m : List ℕ) (x : ℕ) (s : 1 ≤ x) (h : 32 * x ≤ length m) where
-  -- the row as the code lends it
-  pub row_is : take (32 * x - (32 * x - 32)) (drop (32 * x - 32) m) ≡ row_n m x
-  unfolding row_n
-  row_is =
-      let w : 32 * x - (32 * x - 32) ≡ 32 = omega arith in
-      let at : 32 * x - 32 ≡ 32 * (x - 1) = omega arith in
-      rw (w, at)
-
   pub row_get : (w f : ℕ) → f + w ≤ 32 → get_le w (row_n m x) f ≡ get_le w m (32 * (x - 1) + f)
   unfolding row_n
   row_get w f e = get_part m (32 * (x - 1)) 32 f w e (omega arith)
@@ -103,14 +90,14 @@ module _ (m : List ℕ) (N t u x lo hi : ℕ) where
   unfolding own_n
   own_past s h = simp (ne_eqb x 0 s, lt-leb x N h)
 
-  pub own_row : (x ≡ 0 → ⊥) → x ≤ N → 32 * N ≤ length m → {r : List ℕ} → r ≡ row_n m x → {v p : ℕ} → v ≡ get_le 1 r 15 → p ≡ get_le 2 r 12
-      → {c d e f g : Bool} → c ≡ rises_n m lo x → d ≡ rises_n m x hi → e ≡ (c && d) → f ≡ (eqb p u && e) → g ≡ (eqb v t && f) → g ≡ own_n m N t u x lo hi
+  pub own_row : (x ≡ 0 → ⊥) → x ≤ N → 32 * x ≤ length m → {r : List ℕ} → r ≡ row_n m x → {v p : ℕ} → v ≡ get_le 1 r 15 → p ≡ get_le 2 r 12
+      → {c d : Bool} → c ≡ rises_n m lo x → d ≡ rises_n m x hi → (((eqb v t && eqb p u) && c) && d) ≡ own_n m N t u x lo hi
   unfolding own_n
-  own_row s h room re ve pe c d e f g =
+  own_row s h room re ve pe c d =
       let i : 1 ≤ x = omega arith in
-      let tree_is = ve ∙ ap (λ (r : List ℕ). get_le 1 r 15) re ∙ row_tree m x i (omega arith) in
-      let parent_is = pe ∙ ap (λ (r : List ℕ). get_le 2 r 12) re ∙ row_parent m x i (omega arith) in
-      simp (ne_eqb x 0 s, le-leb x N h, ← tree_is, ← parent_is, ← c, ← d, ← e, ← f) g
+      let tree_is = ve ∙ ap (λ (r : List ℕ). get_le 1 r 15) re ∙ row_tree m x i room in
+      let parent_is = pe ∙ ap (λ (r : List ℕ). get_le 2 r 12) re ∙ row_parent m x i room in
+      simp (ne_eqb x 0 s, le-leb x N h, ← tree_is, ← parent_is, ← c, ← d, and_assoc) refl
 
   -- a record that passes is one of the slots, and lies between the bounds
   pub own_in : {o : Bool} → o ≡ own_n m N t u x lo hi → o ≡ true → (1 ≤ x) × (x ≤ N) × ((rises_n m lo x && rises_n m x hi) ≡ true)

@@ -1,10 +1,6 @@
 -- A record of a tree in order and by bounds: where its parts tell the same both ways, so does the record. Assumes nothing.
-use mathlib.Core.Bool.{Bool, true, false, cond, ◌&&◌, ◌||◌, false≢true}
-use mathlib.Core.Path.{◌≡◌, refl, ap, ◌∙◌, subst}
-use Prim.Native.Nat.{ℕ, suc, ◌+◌, ◌*◌, ◌/◌, ◌%◌, ◌≤◌, ◌<◌, max}
-use native.Mathlib.Omega.{arith}
-use lib.Dec.{leb, ltb, eqb}
-use borrow.Author.Tests.{eqb-true, leb-true, ltb-true, ltb-false, le-leb, lt-ltb}
+use Rattle.std.proofs.Common.{◌≡◌, ℕ, suc, ◌+◌, ◌*◌, ◌/◌, ◌%◌, ◌<◌, ◌≤◌, max, Bool, true, false, cond, ◌&&◌, ◌||◌, eqb, ltb, leb, refl, ap, ◌∙◌, subst, arith, ltb-false, ltb-true, lt-ltb, eqb-true, le-leb, leb-true}
+use Rattle.std.proofs.lemmas.Bool.{false≢true}
 use Rattle.meaning.proofs.Facts.{test, both, both_true}
 use Rattle.judge.specs.Check.{Walk, bad, good, evenly, joined, weighed}
 use Rattle.judge.proofs.Passing.{cond_good, cond_yes, either, or_first, or_second}

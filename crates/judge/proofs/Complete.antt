@@ -1,13 +1,7 @@
 -- Walks that together meet all live records leave none with a tree outside 1 to T or a balance above 2: so the pass over the records need not ask.
 -- Assumes nothing.
-use mathlib.Core.Bool.{true, not, ◌&&◌}
-use mathlib.Core.List.{List, [], ◌∷◌}
-use mathlib.Core.Path.{◌≡◌, refl, sym, ap, ◌∙◌, subst}
-use Prim.Native.Nat.{ℕ, suc, ◌+◌, ◌≤◌, ◌<◌}
-use native.Mathlib.Omega.{arith}
-use lib.Dec.{eqb, leb}
-use lib.ListN.{length, get_or}
-use borrow.Author.Tests.{eqb-true, eqb-false, eq-eqb, le-leb}
+use Rattle.std.proofs.Common.{◌≡◌, ℕ, suc, ◌+◌, ◌<◌, ◌≤◌, true, not, ◌&&◌, eqb, leb, List, [], ◌∷◌, length, get_or, sym, refl, ap, ◌∙◌, subst, arith, eq-eqb, eqb-true, le-leb}
+use Rattle.std.proofs.lemmas.Bool.{eqb-false}
 use Rattle.avl.specs.Order.{All}
 use Rattle.avl.specs.Tree.{left, list}
 use Rattle.meaning.specs.Layout.{bit, within, all, every, count, at}

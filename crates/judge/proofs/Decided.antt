@@ -1,12 +1,5 @@
 -- What the check finds section by section decides whether a pool is sound. Assumes nothing.
-use mathlib.Core.Bool.{Bool, true, not, ◌&&◌}
-use mathlib.Core.List.{List}
-use mathlib.Core.Path.{◌≡◌, refl, sym, ◌∙◌, ap}
-use native.Mathlib.Omega.{arith}
-use Prim.Native.Nat.{ℕ, ◌+◌, ◌*◌, ◌-◌, ◌≤◌}
-use lib.Dec.{eqb}
-use lib.ListN.{length, take, drop, length-drop}
-use lib.Seq.{take_all, drop-drop}
+use Rattle.std.proofs.Common.{◌≡◌, ℕ, ◌+◌, ◌-◌, ◌*◌, ◌≤◌, Bool, true, not, ◌&&◌, eqb, List, length, take, drop, sym, refl, ap, ◌∙◌, arith, length-drop, take_all, drop-drop}
 use Rattle.fields.specs.Part.{part, zeros}
 use Rattle.fields.proofs.Parts.{part_in}
 use Rattle.meaning.specs.Layout.{every, count, all}

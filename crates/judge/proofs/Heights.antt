@@ -1,16 +1,12 @@
 -- Heights handed down: a record of balance b has a height exactly if its parts have what the balance leaves of it, and what a part counts if it
 -- has the height that it is to have does not depend on how deep the walk may go. Assumes nothing.
-use mathlib.Core.Bool.{true}
-use mathlib.Core.List.{List}
-use mathlib.Core.Path.{◌≡◌, refl, sym, ap, ◌∙◌}
-use Prim.Native.Nat.{ℕ, zero, suc, ◌+◌, ◌/◌, ◌%◌, ◌≤◌, max}
-use native.Mathlib.Omega.{arith}
-use lib.Dec.{leb, eqb}
-use borrow.Author.Tests.{eqb-true, eqb-false, eq-eqb, ne_eqb, le-leb}
+use Rattle.std.specs.Prelude.{Some, None}
+use Rattle.std.proofs.Common.{◌≡◌, ℕ, zero, suc, ◌+◌, ◌/◌, ◌%◌, ◌<◌, ◌≤◌, max, true, cond, eqb, leb, List, sym, refl, ap, ◌∙◌, arith, eq-eqb, ne_eqb, eqb-true, le-leb}
+use Rattle.std.proofs.lemmas.Bool.{eqb-false}
 use Rattle.avl.specs.Tree.{left, right}
 use Rattle.tree.specs.Node.{child, balance, get_n, key_n}
 use Rattle.meaning.proofs.Facts.{test, both, both_true}
-use Rattle.judge.specs.Check.{evenly, weighed, bound_n, sized, higher_n, ground_n}
+use Rattle.judge.specs.Check.{evenly, weighed, bound_n, sized, higher_n, height_n, ground_n}
 use Rattle.judge.proofs.Passing.{evenly_cases, or_first}
 use Rattle.judge.proofs.Bounds.{even_low, weighed_parts, weighed_is, Weighed, unweigh}
 use Rattle.judge.proofs.SameWalk.{own, bound_none, bound_deep, bound_turn, counts, part_low}
@@ -191,15 +187,46 @@ module _ (m : List ℕ) (N t : ℕ) where
       (λ e. rw e (omega (arith, ground_height level x c (key + 1) hi d.right_some, eqb-true b 1 e, k, d.is, f)))
       (λ e. rw e (omega (arith, ground_height level x a lo key d.left_some, eqb-false b 1 e, k, d.is, f))))
 
--- From a root it ends at level 13 at the highest.
-low_ground : (m : List ℕ) (N level x : ℕ) → level ≤ 13 → ground_n m N level x ≤ 13
-unfolding ground_n
-low_ground m N zero x h = test (eqb x 0) (λ e. rw e (omega arith)) (λ e. rw e (omega arith))
-low_ground m N (suc level) x h =
-    test (eqb x 0) (λ e. rw e h)
-    (λ e. rw e (test (leb x N) (λ f. rw f (low_ground m N level _ (omega arith))) (λ f. rw f (omega arith))))
+  -- The way down the higher sides of a good part has as many records as the part is high.
+  pub height_is : (level h u x lo hi : ℕ) → 1 ≤ bound_n m N t level u x lo hi
+      → height_n m N (suc level) h x ≡ Some (h + bound_n m N t level u x lo hi % 256)
+  unfolding height_n higher_n
+  height_is zero h u zero lo hi s = ap Some (omega (arith, bound_none m N t zero u lo hi))
+  height_is (suc level) h u zero lo hi s = ap Some (omega (arith, bound_none m N t (suc level) u lo hi))
+  height_is zero h u (suc i) lo hi s = absurd (omega (arith, bound_deep m N t u i lo hi))
+  height_is (suc level) h u (suc i) lo hi s =
+      let x = suc i in
+      let b = get_n m x balance in
+      let key = key_n m x in
+      let a = get_n m x (child left) in
+      let c = get_n m x (child right) in
+      let p = bound_n m N t level x a lo key in
+      let q = bound_n m N t level x c (key + 1) hi in
+      let d = turned level u x lo hi (omega arith) s in
+      let f = even_low b (p % 256) (q % 256) d.even in
+      let k = split b (p % 256) (q % 256) (max (p % 256) (q % 256) + 1) d.even refl in
+      let inside = (both (leb x N) _ d.fits).0 in
+      rw (ne_eqb x 0 (omega arith), inside)
+      (test (eqb b 1)
+      (λ e. rw e (height_is level (h + 1) x c (key + 1) hi d.right_some ∙ ap Some (omega (arith, eqb-true b 1 e, k, d.is, f))))
+      (λ e. rw e (height_is level (h + 1) x a lo key d.left_some ∙ ap Some (omega (arith, eqb-false b 1 e, k, d.is, f)))))
 
-pub root_ground : (m : List ℕ) (N level x : ℕ) → level ≤ 13 → 1 ≤ x → ground_n m N (suc level) x ≤ 13
-unfolding ground_n
-root_ground m N level x h s =
-    rw (ne_eqb x 0 (omega arith)) (test (leb x N) (λ f. rw f (low_ground m N level _ h)) (λ f. rw f (omega arith)))
+-- The way has at least the records that were met before, and no more than there are turns.
+height_within : (m : List ℕ) (N turns h x : ℕ) {k : ℕ} → Some k ≡ height_n m N turns h x → (h ≤ k) × (k < h + turns)
+unfolding height_n
+height_within m N zero h x e = absurd cc
+height_within m N (suc turns) h x {k} e =
+    test (eqb x 0) (λ z. let same : Some k ≡ Some h = rw z at e in let n : k ≡ h = cc in (omega arith, omega arith))
+    (λ z. let rest : Some k ≡ cond (leb x N) (height_n m N turns (h + 1) (higher_n m x)) None = rw z at e in
+    test (leb x N)
+    (λ i. let w = height_within m N turns (h + 1) (higher_n m x) (rw i at rest) in (omega (arith, w.0), omega (arith, w.1)))
+    (λ i. let none : Some k ≡ None = rw i at rest in absurd cc))
+
+-- and from a record at least that one
+pub height_root : (m : List ℕ) (N turns x : ℕ) → 1 ≤ x → {k : ℕ} → Some k ≡ height_n m N (suc turns) 0 x → (1 ≤ k) × (k ≤ turns)
+unfolding height_n
+height_root m N turns x s {k} e =
+    let rest : Some k ≡ cond (leb x N) (height_n m N turns (0 + 1) (higher_n m x)) None = rw (ne_eqb x 0 (omega arith)) at e in
+    test (leb x N)
+    (λ i. let w = height_within m N turns (0 + 1) (higher_n m x) (rw i at rest) in (omega (arith, w.0), omega (arith, w.1)))
+    (λ i. let none : Some k ≡ None = rw i at rest in absurd cc)

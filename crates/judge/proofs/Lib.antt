@@ -8,6 +8,7 @@ pub mod Decided
 pub mod Bounds
 pub mod SameWalk
 pub mod Heights
+pub mod Flat
 pub mod Between
 pub mod Twigs
 pub mod WalkSteps

@@ -1,12 +1,6 @@
 -- The check of a pool's trees in one pass decides what soundness says of them. Assumes nothing.
-use mathlib.Core.Bool.{Bool, true, false, not, cond, ◌&&◌, false≢true}
-use mathlib.Core.List.{List, [], ◌∷◌}
-use mathlib.Core.Path.{◌≡◌, refl, sym, ap, ◌∙◌, subst}
-use Prim.Native.Nat.{ℕ, zero, suc, ◌+◌, ◌≤◌, ◌<◌}
-use native.Mathlib.Omega.{arith}
-use lib.Dec.{eqb}
-use lib.ListN.{length, get_or}
-use borrow.Author.Tests.{eqb-true, eq-eqb}
+use Rattle.std.proofs.Common.{◌≡◌, ℕ, zero, suc, ◌+◌, ◌<◌, ◌≤◌, Bool, true, false, cond, not, ◌&&◌, eqb, List, [], ◌∷◌, length, get_or, sym, refl, ap, ◌∙◌, subst, arith, eq-eqb, eqb-true}
+use Rattle.std.proofs.lemmas.Bool.{false≢true}
 use Rattle.avl.specs.Tree.{left, Tree, list, height}
 use Rattle.avl.specs.Order.{Sorted}
 use Rattle.avl.proofs.Height.{levels_14, size_list}

@@ -1,12 +1,7 @@
 -- The walk over a tree by bounds is good exactly if the walk in order is, and counts the same records. Assumes nothing.
-use mathlib.Core.Bool.{Bool, true, false, cond, ◌&&◌, false≢true}
-use mathlib.Core.List.{List}
-use mathlib.Core.Path.{◌≡◌, refl, sym, ◌∙◌}
-use Prim.Native.Nat.{ℕ, zero, suc, ◌+◌, ◌*◌, ◌-◌, ◌/◌, ◌%◌, ◌^◌, ◌≤◌, ◌<◌}
-use native.Mathlib.Omega.{arith}
-use native.Mathlib.Nat.{pow-suc, one-le-pow}
-use lib.Dec.{leb, ltb, eqb}
-use borrow.Author.Tests.{ne_eqb, le-leb, leb-true, ltb-true, ltb-false}
+use Rattle.std.proofs.Common.{◌≡◌, ℕ, zero, suc, ◌+◌, ◌-◌, ◌*◌, ◌/◌, ◌%◌, ◌^◌, ◌<◌, ◌≤◌, Bool, true, false, cond, ◌&&◌, eqb, ltb, leb, List, sym, refl, ◌∙◌, pow-suc, arith, ltb-false, ltb-true, ne_eqb, le-leb, leb-true}
+use Rattle.std.proofs.Math.Nat.{one-le-pow}
+use Rattle.std.proofs.lemmas.Bool.{false≢true}
 use Rattle.fields.specs.Number.{Bytes}
 use Rattle.avl.specs.Tree.{left, right}
 use Rattle.tree.specs.Node.{child, parent, balance, get_n, key_n}

@@ -1,12 +1,8 @@
 -- The sections of a pool as the check sees them: the records counted, their fields read in place, the unused text. Assumes nothing.
-use mathlib.Core.Bool.{true, false≢true, not, cond}
-use mathlib.Core.List.{List, [], ◌∷◌, map}
-use mathlib.Core.Path.{◌≡◌, refl, sym, ◌∙◌, ap}
-use native.Mathlib.Omega.{arith}
-use Prim.Native.Nat.{ℕ, zero, suc, ◌+◌, ◌*◌, ◌-◌, ◌≤◌, ◌<◌}
-use lib.Dec.{eqb, eqb-suc-zero}
-use lib.ListN.{length, take, drop, get_or}
-use borrow.Author.Tests.{eqb-true, eqb-false, ne_eqb}
+use Rattle.std.specs.Prelude.{Some, None, Option}
+use Rattle.std.proofs.Common.{◌≡◌, ℕ, zero, suc, ◌+◌, ◌-◌, ◌*◌, ◌<◌, ◌≤◌, cond, not, eqb, List, [], ◌∷◌, map, length, get_or, take, drop, sym, refl, ap, ◌∙◌, ap₂, arith, ne_eqb, eqb-true}
+use Rattle.std.proofs.Math.Dec.{eqb-suc-zero}
+use Rattle.std.proofs.lemmas.Bool.{eqb-false}
 use Rattle.fields.specs.Number.{get_le}
 use Rattle.avl.specs.Tree.{left, right}
 use Rattle.tree.specs.Node.{child, parent, balance, get_n, key_n}
@@ -19,44 +15,33 @@ use Rattle.fields.proofs.Spans.{get_part}
 use Rattle.meaning.proofs.Sections.{row_field}
 use Rattle.judge.specs.Check.{tree_n}
 use Rattle.judge.specs.Rows.{record_in, counted}
+use Rattle.judge.specs.declared.verdict.Census.{Census}
 use Rattle.judge.proofs.Passing.{Agree}
 
 -- ---- the records counted
 
--- The pass says whether every record is good.
-pub counted_ok : (used next x n f : ℕ) (rs : List (List ℕ)) → (counted used next x n f rs).ok ≡ every (record_in used next) rs
-unfolding counted every
-counted_ok used next x n f [] = refl
-counted_ok used next x n f (r ∷ rs) =
-    test (record_in used next r)
-    (λ t. test (eqb (tree_in r) 0) (λ u. rw (t, u) (counted_ok used next (suc x) n (cond (eqb f 0) x f) rs)) (λ u. rw (t, u) (counted_ok used next (suc x) (n + 1) f rs)))
-    (λ t. rw t refl)
+-- a census, and none
+abbrev of : ℕ → ℕ → Option Census
+of live free = Some (record { live = live; free = free })
 
--- and if so, how many are live.
-pub counted_live : (used next x n f : ℕ) (rs : List (List ℕ)) → every (record_in used next) rs ≡ true
-    → (counted used next x n f rs).live ≡ n + count (λ r. not (eqb (tree_in r) 0)) rs
-unfolding counted every count
-counted_live used next x n f [] h = omega arith
-counted_live used next x n f (r ∷ rs) h =
-    test (record_in used next r)
-    (λ t. test (eqb (tree_in r) 0)
-    (λ u. rw (t, u) (counted_live used next (suc x) n (cond (eqb f 0) x f) rs (rw t at h) ∙ omega arith))
-    (λ u. rw (t, u) (counted_live used next (suc x) (n + 1) f rs (rw t at h) ∙ omega arith)))
-    (λ t. absurd (false≢true (rw t at h)))
-
--- and the lowest free slot, if there was none before.
-pub counted_free : (used next x n f : ℕ) (rs : List (List ℕ)) → 1 ≤ x → every (record_in used next) rs ≡ true
-    → (counted used next x n f rs).free ≡ cond (eqb f 0) (free_from x (map read_rec rs)) f
-unfolding counted every free_from
-counted_free used next x n f [] low h = test (eqb f 0) (λ z. rw z (eqb-true f 0 z)) (λ z. rw z refl)
-counted_free used next x n f (r ∷ rs) low h =
+-- The pass tells how many are live and the lowest free slot, if there was none before, exactly where every record is good.
+pub counted_is : (used next x n f : ℕ) (rs : List (List ℕ)) → 1 ≤ x
+    → counted used next x n f rs
+    ≡ cond (every (record_in used next) rs) (of (n + count (λ r. not (eqb (tree_in r) 0)) rs) (cond (eqb f 0) (free_from x (map read_rec rs)) f)) None
+unfolding counted every count free_from
+counted_is used next x n f [] low =
+    ap₂ of (omega arith) (test (eqb f 0) (λ z. rw z (eqb-true f 0 z)) (λ z. rw z refl))
+counted_is used next x n f (r ∷ rs) low =
     test (record_in used next r)
     (λ t. test (eqb (tree_in r) 0)
     (λ u. rw (t, u, read_free r (eqb-true (tree_in r) 0 u))
-    (counted_free used next (suc x) n (cond (eqb f 0) x f) rs (omega arith) (rw t at h)
-    ∙ test (eqb f 0) (λ z. rw (z, ne_eqb x 0 (omega arith)) refl) (λ z. rw (z, z) refl)))
-    (λ u. rw (t, u, read_live r (omega (arith, eqb-false (tree_in r) 0 u))) (counted_free used next (suc x) (n + 1) f rs (omega arith) (rw t at h))))
-    (λ t. absurd (false≢true (rw t at h)))
+    (counted_is used next (suc x) n (cond (eqb f 0) x f) rs (omega arith)
+    ∙ ap₂ (λ (i j : ℕ). cond (every (record_in used next) rs) (of i j) None) (omega arith)
+    (test (eqb f 0) (λ z. rw (z, ne_eqb x 0 (omega arith)) refl) (λ z. rw (z, z) refl))))
+    (λ u. rw (t, u, read_live r (omega (arith, eqb-false (tree_in r) 0 u)))
+    (counted_is used next (suc x) (n + 1) f rs (omega arith)
+    ∙ ap (λ (i : ℕ). cond (every (record_in used next) rs) (of i (cond (eqb f 0) (free_from (suc x) (map read_rec rs)) f)) None) (omega arith))))
+    (λ t. rw t refl)
 
 -- ---- the fields of records, read in place
 

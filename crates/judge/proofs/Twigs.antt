@@ -1,20 +1,14 @@
 -- Leaves judged where they hang: a record whose word is a leaf's is a leaf, and what a record of height 1 or 2 counts. Assumes nothing.
-use mathlib.Core.Path.{◌≡◌, refl, sym, ap, ◌∙◌}
-use mathlib.Core.Bool.{Bool, true, false, cond, ◌&&◌, and-false, false≢true}
-use mathlib.Core.List.{List}
-use Prim.Native.Nat.{ℕ, zero, suc, ◌+◌, ◌*◌, ◌-◌, ◌/◌, ◌%◌, ◌^◌, ◌<◌, ◌≤◌}
-use native.Mathlib.Omega.{arith}
-use lib.Dec.{eqb, leb}
-use lib.ListN.{length, drop, length-drop}
-use lib.Seq.{length-take-le}
-use borrow.Author.Tests.{eqb-true, eqb-false, eq-eqb, ne_eqb, le-leb, leb-true}
+use Rattle.std.proofs.Common.{◌≡◌, ℕ, zero, suc, ◌+◌, ◌-◌, ◌*◌, ◌/◌, ◌%◌, ◌^◌, ◌<◌, ◌≤◌, Bool, true, false, cond, ◌&&◌, eqb, leb, List, length, drop, sym, refl, ap, ◌∙◌, arith, length-drop, length-take-le, eq-eqb, ne_eqb, eqb-true, le-leb, leb-true}
+use Rattle.std.proofs.Math.Bool.{and-false}
+use Rattle.std.proofs.lemmas.Bool.{false≢true, eqb-false}
 use Rattle.fields.specs.Number.{get_le, Bytes}
 use Rattle.fields.proofs.Numbers.{get_join}
 use Rattle.avl.specs.Tree.{left, right}
 use Rattle.tree.specs.Node.{child, parent, balance, get_n}
 use Rattle.meaning.proofs.Facts.{test, both, both_true}
 use Rattle.meaning.proofs.Sections.{get_bound}
-use Rattle.judge.specs.Check.{tree_n, evenly, weighed, bound_n, parts_n, row_n, from, below, rises_n, own_n, Held, sized, pick_n, word_n, leaf_n, fits_n}
+use Rattle.judge.specs.Check.{tree_n, evenly, weighed, bound_n, parts_n, row_n, from, below, rises_n, own_n, sized, pick_n, word_n, leaf_n, fits_n}
 use Rattle.judge.proofs.Passing.{same_truth}
 use Rattle.judge.proofs.SameWalk.{bound_none}
 use Rattle.judge.proofs.Heights.{none_is, fit_of, part, parts_sum, sized_is, turned}
@@ -149,9 +143,9 @@ unfolding pick_n
 pick_slot x y e h = rw e (test (eqb y 0) (λ z. rw z h) (λ z. rw z (omega (arith, eqb-false y 0 z))))
 
 -- links that pass the tests lead to slots
-pub shaped_in : (N l r : ℕ) {c e f k : Bool} → c ≡ (leb l N && leb r N) → e ≡ k → f ≡ (c && e) → f ≡ true → (l ≤ N) × (r ≤ N)
-shaped_in N l r {c} {e} {f} ce ee fe z =
-    let g = both (leb l N) (leb r N) (sym ce ∙ (both c e (sym fe ∙ z)).0) in
+pub shaped_in : (N l r : ℕ) (c d : Bool) → (((leb l N && leb r N) && c) && d) ≡ true → (l ≤ N) × (r ≤ N)
+shaped_in N l r c d z =
+    let g = both (leb l N) (leb r N) (both (leb l N && leb r N) c (both ((leb l N && leb r N) && c) d z).0).0 in
     (leb-true l N g.0, leb-true r N g.1)
 
 -- a link of a good part leads to a slot
@@ -159,7 +153,7 @@ in_slots : (m : List ℕ) (N t u y lo hi : ℕ) → 1 ≤ bound_n m N t 1 u y lo
 in_slots m N t u zero lo hi h = omega arith
 in_slots m N t u (suc i) lo hi h = leb-true (suc i) N (both (leb (suc i) N) _ (turned m N t 0 u (suc i) lo hi (omega arith) h).fits).0
 
-module _ (m : List ℕ) (all : Bytes m) (N t x lo hi h : ℕ) (s : 1 ≤ x) (inside : x ≤ N) (held : Held m N t lo hi)
+module _ (m : List ℕ) (all : Bytes m) (N t x lo hi h : ℕ) (s : 1 ≤ x) (inside : x ≤ N) (room : 32 * N ≤ length m) (few : N ≤ 65_535)
     (between : (rises_n m lo x && rises_n m x hi) ≡ true) {row : List ℕ} (re : row ≡ row_n m x) {l r b : ℕ} (le : l ≡ get_le 2 row 8)
     (ue : r ≡ get_le 2 row 10) (be : b ≡ get_le 1 row 14) {hl hr : ℕ} (hle : hl ≡ pick_n l 1 0) (hre : hr ≡ pick_n r 1 0) where
   abbrev left_leaf : Bool
@@ -178,18 +172,18 @@ module _ (m : List ℕ) (all : Bytes m) (N t x lo hi h : ℕ) (s : 1 ≤ x) (ins
   twig = sized (parts_n m N t 1 x (from m lo) (below m hi)) h
 
   within : 32 * x ≤ length m
-  within = omega (arith, held.room)
+  within = omega (arith, room)
 
   parts : parts_n m N t 1 x (from m lo) (below m hi) ≡ weighed b P Q
   parts = parts_are m x s within re N t 1 lo hi le ue be
 
   left_part : l ≤ N → P ≡ cond left_leaf (256 * (1 + hl) + hl) 0
   left_part i =
-      rw hle (rw (pick_same l lo) at (hung m all N t held.room x (omega (arith, held.few)) lo hi l lo x between i))
+      rw hle (rw (pick_same l lo) at (hung m all N t room x (omega (arith, few)) lo hi l lo x between i))
 
   right_part : r ≤ N → Q ≡ cond right_leaf (256 * (1 + hr) + hr) 0
   right_part i =
-      rw hre (rw (pick_same r hi) at (hung m all N t held.room x (omega (arith, held.few)) lo hi r x hi between i))
+      rw hre (rw (pick_same r hi) at (hung m all N t room x (omega (arith, few)) lo hi r x hi between i))
 
   -- a good twig passes every test
   pub record Twig : Type 0 where
@@ -232,50 +226,54 @@ module _ (m : List ℕ) (all : Bytes m) (N t x lo hi h : ℕ) (s : 1 ≤ x) (ins
       omega (arith, e, f, p, q, n) ∙ ap (λ (k : ℕ). sized k h) (sym parts)
 
   -- the tests of its links and its balance
-  module _ {c d e f : Bool} (ce : c ≡ (leb l N && leb r N)) (de : d ≡ (eqb (hl + b % 2 + 1) h && eqb (hr + b / 2 + 1) h)) (ee : e ≡ (leb b 2 && d))
-      (fe : f ≡ (c && e)) where
-    pub twig_unshaped : f ≡ false → 0 ≡ twig
-    twig_unshaped z = none_is twig (λ some. false≢true (sym z ∙ good (twig_some some)))
-      where
-        good : Twig → f ≡ true
-        good w =
-            fe ∙ both_true c e (ce ∙ both_true (leb l N) (leb r N) (le-leb l N w.left_in) (le-leb r N w.right_in))
-            (ee ∙ both_true (leb b 2) d (le-leb b 2 w.low)
-            (de ∙ both_true (eqb (hl + b % 2 + 1) h) (eqb (hr + b / 2 + 1) h) (eq-eqb (hl + b % 2 + 1) h w.left_high) (eq-eqb (hr + b / 2 + 1) h w.right_high)))
+  abbrev slots : Bool
+  slots = leb l N && leb r N
 
-    module _ (z : f ≡ true) where
-      shaped : left_leaf ≡ true → right_leaf ≡ true → Twig
-      shaped p q =
-          let g = both (leb b 2) d (sym ee ∙ (both c e (sym fe ∙ z)).1) in
-          let k = both (eqb (hl + b % 2 + 1) h) (eqb (hr + b / 2 + 1) h) (sym de ∙ g.1) in
-          record {
-            low = leb-true b 2 g.0;
-            left_in = (shaped_in N l r ce ee fe z).0;
-            right_in = (shaped_in N l r ce ee fe z).1;
-            left_high = eqb-true (hl + b % 2 + 1) h k.0;
-            right_high = eqb-true (hr + b / 2 + 1) h k.1;
-            left_fits = p;
-            right_fits = q;
-          }
+  abbrev even : Bool
+  even = eqb (hl + b % 2 + 1) h && eqb (hr + b / 2 + 1) h
 
-      -- the tests of its leaves
-      module _ {word : ℕ} (we : word ≡ get_le 8 row 8) {l₁ l₂ l₃ r₁ r₂ r₃ : ℕ} (a₁ : l₁ ≡ pick_n l l x) (a₂ : l₂ ≡ pick_n l (leaf_n t x) word)
-          (a₃ : l₃ ≡ pick_n l x hi) {p : Bool} (pe : p ≡ fits_n m l₁ l₂ lo l₃) (c₁ : r₁ ≡ pick_n r r x) (c₂ : r₂ ≡ pick_n r (leaf_n t x) word)
-          (c₃ : r₃ ≡ pick_n r x lo) {q : Bool} (qe : q ≡ fits_n m r₁ r₂ r₃ hi) {o : Bool} (oe : o ≡ (p && q)) where
-        word_is : word ≡ word_n m x
-        word_is = we ∙ ap (λ (k : List ℕ). get_le 8 k 8) re
+  pub twig_unshaped : ((slots && leb b 2) && even) ≡ false → 0 ≡ twig
+  twig_unshaped z = none_is twig (λ some. false≢true (sym z ∙ good (twig_some some)))
+    where
+      good : Twig → ((slots && leb b 2) && even) ≡ true
+      good w =
+          both_true (slots && leb b 2) even
+          (both_true slots (leb b 2) (both_true (leb l N) (leb r N) (le-leb l N w.left_in) (le-leb r N w.right_in)) (le-leb b 2 w.low))
+          (both_true (eqb (hl + b % 2 + 1) h) (eqb (hr + b / 2 + 1) h) (eq-eqb (hl + b % 2 + 1) h w.left_high) (eq-eqb (hr + b / 2 + 1) h w.right_high))
 
-        left_is : p ≡ left_leaf
-        left_is = pe ∙ simp (a₁, a₂, a₃, word_is) refl
+  module _ (z : ((slots && leb b 2) && even) ≡ true) where
+    shaped : left_leaf ≡ true → right_leaf ≡ true → Twig
+    shaped p q =
+        let g = both (slots && leb b 2) even z in
+        let k = both (eqb (hl + b % 2 + 1) h) (eqb (hr + b / 2 + 1) h) g.1 in
+        record {
+          low = leb-true b 2 (both slots (leb b 2) g.0).1;
+          left_in = (shaped_in N l r _ _ z).0;
+          right_in = (shaped_in N l r _ _ z).1;
+          left_high = eqb-true (hl + b % 2 + 1) h k.0;
+          right_high = eqb-true (hr + b / 2 + 1) h k.1;
+          left_fits = p;
+          right_fits = q;
+        }
 
-        right_is : q ≡ right_leaf
-        right_is = qe ∙ simp (c₁, c₂, c₃, word_is) refl
+    -- the tests of its leaves
+    module _ {word : ℕ} (we : word ≡ get_le 8 row 8) {l₁ l₂ l₃ r₁ r₂ r₃ : ℕ} (a₁ : l₁ ≡ pick_n l l x) (a₂ : l₂ ≡ pick_n l (leaf_n t x) word)
+        (a₃ : l₃ ≡ pick_n l x hi) {p : Bool} (pe : p ≡ fits_n m l₁ l₂ lo l₃) (c₁ : r₁ ≡ pick_n r r x) (c₂ : r₂ ≡ pick_n r (leaf_n t x) word)
+        (c₃ : r₃ ≡ pick_n r x lo) {q : Bool} (qe : q ≡ fits_n m r₁ r₂ r₃ hi) where
+      word_is : word ≡ word_n m x
+      word_is = we ∙ ap (λ (k : List ℕ). get_le 8 k 8) re
 
-        pub twig_bare : o ≡ false → 0 ≡ twig
-        twig_bare n =
-            none_is twig (λ some.
-            let w = twig_some some in
-            false≢true (sym n ∙ (oe ∙ both_true p q (left_is ∙ w.left_fits) (right_is ∙ w.right_fits))))
+      left_is : p ≡ left_leaf
+      left_is = pe ∙ simp (a₁, a₂, a₃, word_is) refl
 
-        pub twig_good : o ≡ true → 2 + (hl + hr) ≡ twig
-        twig_good n = let g = both p q (sym oe ∙ n) in some_twig (shaped (sym left_is ∙ g.0) (sym right_is ∙ g.1))
+      right_is : q ≡ right_leaf
+      right_is = qe ∙ simp (c₁, c₂, c₃, word_is) refl
+
+      pub twig_bare : (p && q) ≡ false → 0 ≡ twig
+      twig_bare n =
+          none_is twig (λ some.
+          let w = twig_some some in
+          false≢true (sym n ∙ both_true p q (left_is ∙ w.left_fits) (right_is ∙ w.right_fits)))
+
+      pub twig_good : (p && q) ≡ true → 2 + (hl + hr) ≡ twig
+      twig_good n = let g = both p q n in some_twig (shaped (sym left_is ∙ g.0) (sym right_is ∙ g.1))

@@ -1,6 +1,6 @@
 -- A model: what the code computes. No door's promise cites it, and it need not be believed.
 -- The check of a pool's trees in one pass over their links, on the record bytes. Assumes nothing.
-use Rattle.std.specs.Prelude.{Bool, true, false, cond, ◌&&◌, ◌||◌, List, [], ◌∷◌, ℕ, zero, suc, ◌+◌, ◌*◌, ◌-◌, ◌/◌, ◌%◌, ◌≤◌, max, length, take, drop, eqb, leb, ltb}
+use Rattle.std.specs.Prelude.{Bool, true, false, cond, ◌&&◌, ◌||◌, List, [], ◌∷◌, ℕ, zero, suc, ◌+◌, ◌*◌, ◌-◌, ◌/◌, ◌%◌, max, take, drop, eqb, leb, ltb, Option, Some, None}
 use Rattle.fields.specs.Number.{get_le}
 use Rattle.avl.specs.Tree.{left, right}
 use Rattle.tree.specs.Node.{child, parent, balance, get_n, key_n}
@@ -88,25 +88,27 @@ unfoldable pub own_n : List ℕ → ℕ → ℕ → ℕ → ℕ → ℕ → ℕ 
 own_n m N t u x lo hi =
     cond (eqb x 0) false (leb x N && (eqb (tree_n m x) t && (eqb (get_n m x parent) u && (rises_n m lo x && rises_n m x hi))))
 
--- the bytes hold N records, and the bounds are among them; the numbers of slots and of the tree have two bytes and one
-pub record Held (m : List ℕ) (N t lo hi : ℕ) : Type 0 where
-  pub room : 32 * N ≤ length m
-  pub few : N ≤ 65_535
-  pub byte : t ≤ 255
-  pub low : lo ≤ N
-  pub high : hi ≤ N
-
 -- ---- heights handed down
 
 -- of a part, by its number: one more than its records if it has the height h, else 0
 unfoldable pub sized : ℕ → ℕ → ℕ
 sized n h = cond (eqb (n % 256) h) (n / 256) 0
 
--- the link of record x on its higher side, the left one if neither is
+-- the link of record x on its higher side, the left one if neither is; the same of the record's bytes
 unfoldable pub higher_n : List ℕ → ℕ → ℕ
 higher_n m x = cond (eqb (get_n m x balance) 1) (get_n m x (child right)) (get_n m x (child left))
 
--- the level at which the way from x down the higher sides ends; 13 if it leaves the slots or does not end
+unfoldable pub higher_in : List ℕ → ℕ
+higher_in r = cond (eqb (get_le 1 r 14) 1) (get_le 2 r 10) (get_le 2 r 8)
+
+-- how many records are on the way from x down the higher sides, after h of them; None if it leaves the slots or does not end in so many turns
+unfoldable pub height_n : List ℕ → ℕ → ℕ → ℕ → ℕ → Option ℕ
+height_n m N zero h x = None
+height_n m N (suc turns) h x =
+    let next = height_n m N turns (h + 1) (higher_n m x) in
+    cond (eqb x 0) (Some h) (cond (leb x N) next None)
+
+-- the level at which that way ends, from so many levels on; 13 if it leaves the slots or does not end
 unfoldable pub ground_n : List ℕ → ℕ → ℕ → ℕ → ℕ
 ground_n m N zero x = cond (eqb x 0) 0 13
 ground_n m N (suc level) x =
@@ -131,6 +133,11 @@ unfoldable pub fits_n : List ℕ → ℕ → ℕ → ℕ → ℕ → Bool
 fits_n m x word lo hi = eqb (word_n m x) word && (rises_n m lo x && rises_n m x hi)
 
 -- ---- all trees
+
+-- a number of records, or None for a bad part, as the models count: 0 for a bad part, else one more than its records
+abbrev pub told : Option ℕ → ℕ
+told None = 0
+told (Some n) = n + 1
 
 -- what a walk tells of a tree: 0 that it is bad, else one more than its records
 unfoldable pub found : Walk → ℕ

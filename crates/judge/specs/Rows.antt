@@ -1,15 +1,14 @@
 -- A model: what the code computes. No door's promise cites it, and it need not be believed.
 -- What a pass over the records of a pool tells, and what the judgement of the pool does. Assumes nothing.
-use Rattle.std.specs.Prelude.{Bool, true, false, cond, List, [], ◌∷◌, ℕ, suc, ◌+◌, eqb, leb, ltb, drop}
+use Rattle.std.specs.Prelude.{Bool, cond, List, [], ◌∷◌, ℕ, suc, ◌+◌, eqb, leb, ltb, drop, Option, Some, None, Result, Ok, Err}
 use Rattle.fields.specs.Part.{zeros}
 use Rattle.meaning.specs.Layout.{within, all}
 use Rattle.meaning.specs.Pool.{tree_in, stamp_in, start_in, len_in, live_count, read}
 use Rattle.meaning.specs.Change.{free_slot}
 use Rattle.meaning.specs.Sound.{sound}
-use Rattle.judge.specs.declared.verdict.Judged.{Judged}
-
-abbrev pub unsound : Judged
-unsound = record { ok = false; live = 0; free = 0 }
+use Rattle.format.specs.declared.refusal.Refusal.{Refusal}
+use Rattle.format.specs.declared.refusal.Refusal.TheVariants.{Damaged}
+use Rattle.judge.specs.declared.verdict.Census.{Census}
 
 -- a record is free and zero, or live, and then good but for its balance and its tree: that the walks meet every live record says the rest
 unfoldable pub live_in : ℕ → ℕ → List ℕ → Bool
@@ -20,13 +19,13 @@ unfoldable pub record_in : ℕ → ℕ → List ℕ → Bool
 record_in used next r = cond (eqb (tree_in r) 0) (zeros r) (live_in used next r)
 
 -- whether all are good, how many are live, and the lowest free slot, 0 for none: of the rows from slot x on, after `live` and `free`
-unfoldable pub counted : ℕ → ℕ → ℕ → ℕ → ℕ → List (List ℕ) → Judged
-counted used next x live free [] = record { ok = true; live = live; free = free }
+unfoldable pub counted : ℕ → ℕ → ℕ → ℕ → ℕ → List (List ℕ) → Option Census
+counted used next x live free [] = Some (record { live = live; free = free })
 counted used next x live free (r ∷ rs) =
     let taken = counted used next (suc x) (live + 1) free rs in
     let vacant = counted used next (suc x) live (cond (eqb free 0) x free) rs in
-    cond (record_in used next r) (cond (eqb (tree_in r) 0) vacant taken) unsound
+    cond (record_in used next r) (cond (eqb (tree_in r) 0) vacant taken) None
 
 -- what is known of a pool once it is judged: whether it is sound, and then how many records are live and the lowest free slot
-unfoldable pub judged : List ℕ → Judged
-judged b = cond (sound b) (record { ok = true; live = live_count (read b); free = free_slot (read b) }) unsound
+unfoldable pub judged : List ℕ → Result Census Refusal
+judged b = cond (sound b) (Ok (record { live = live_count (read b); free = free_slot (read b) })) (Err Damaged)

@@ -5,7 +5,7 @@
 // | file       | what it has                                                                             |
 // |------------|-----------------------------------------------------------------------------------------|
 // | verdict.rt | judge, is_sound, check: one pass over each section, header, tree entries, records, text  |
-// | rows.rt    | the clauses of header, entry and record                                                 |
+// | rows.rt    | the clauses of header, entry and record, and the pass over the records                  |
 // | walk.rt    | the pass over a tree's links                                                            |
 //
 // Stack only: the deepest calls are check_link and check_record in turn, 14 levels.

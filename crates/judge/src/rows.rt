@@ -1,141 +1,106 @@
-// The clauses of a sound pool over its header, a tree entry, a record and the text, section by section.
-ghost use Rattle.std.specs.Prelude.{◌≡◌, ◌+◌, ◌*◌, ◌≤◌, length, drop};
-ghost use Rattle.std.specs.Bool.{beq};
-ghost use Rattle.meaning.specs.Layout.{rows, every};
+// The clauses of a sound pool over its header, a tree entry and a record, and one pass over the records.
+ghost use Rattle.std.specs.Prelude.{◌≡◌, ℕ, ◌<◌, ◌≤◌, [], length, slice_index_or};
+ghost use Rattle.fields.specs.Number.{Bytes};
+ghost use Rattle.meaning.specs.Layout.{concat, every};
 ghost use Rattle.meaning.specs.Sound.{header_ok, entry_ok};
 ghost use Rattle.judge.specs.Rows.{live_in, record_in, counted};
 
-use super::verdict::Judged;
-use format::test::{both, within};
+use super::verdict::Census;
 use format::{entry, header, limit, record};
 
 // Whether the header agrees with the pool's length.
+#[tactic(auto, unfolding(meaning::specs::Sound::header_ok, meaning::specs::Layout::within, meaning::specs::Layout::all, meaning::specs::Pool::opened))]
 pub fn header_ok(pool: &[u8]) -> bool
     ensures { result ≡ header_ok pool.now }
 {
-    let n = fields::get_u16(pool, header::SLOTS);
-    let t = fields::get_u16(pool, header::TREES);
-    let x = fields::get_u32(pool, header::TEXT_SIZE);
+    let n = fields::get::<u16>(pool, header::SLOTS);
+    let t = fields::get::<u16>(pool, header::TREES);
+    let x = fields::get::<u32>(pool, header::TEXT_SIZE);
     let records = header::SIZE + entry::SIZE * t as usize;
     let text = records + record::SIZE * n as usize;
-    let sizes = both(
-        fields::get_u16(pool, header::EDITION) == limit::POOL_EDITION,
-        both(
-            within(1, limit::SLOTS, n as u32),
-            within(1, limit::TREES, t as u32),
-        ),
-    );
-    let places = both(
-        fields::get_u32(pool, header::TABLE) as usize == header::SIZE,
-        both(
-            fields::get_u32(pool, header::RECORDS) as usize == records,
-            fields::get_u32(pool, header::TEXT) as usize == text,
-        ),
-    );
-    let used = both(
-        x <= limit::TEXT_SIZE,
-        both(
-            fields::get_u32(pool, header::TEXT_USED) <= x,
-            1 <= fields::get_u32(pool, header::NEXT_STAMP),
-        ),
-    );
-    both(
-        sizes,
-        both(places, both(used, pool.len() == text + x as usize)),
-    )
-}
-
-// Whether two tests have one answer.
-fn agree(a: bool, b: bool) -> bool
-    ensures { result ≡ beq a b }
-{
-    if a { b } else { !b }
+    fields::get::<u16>(pool, header::EDITION) == limit::POOL_EDITION
+        && 1 <= n
+        && n as u32 <= limit::SLOTS
+        && 1 <= t
+        && t as u32 <= limit::TREES
+        && fields::get::<u32>(pool, header::TABLE) as usize == header::SIZE
+        && fields::get::<u32>(pool, header::RECORDS) as usize == records
+        && fields::get::<u32>(pool, header::TEXT) as usize == text
+        && x <= limit::TEXT_SIZE
+        && fields::get::<u32>(pool, header::TEXT_USED) <= x
+        && 1 <= fields::get::<u32>(pool, header::NEXT_STAMP)
+        && pool.len() == text + x as usize
 }
 
 // A tree entry: its root is 0 exactly if its count is 0, and its last four bytes are zero.
-fn entry_ok(e: &[u8]) -> bool
-    requires { length e.now ≡ 8 }
+#[tactic(auto, unfolding(meaning::specs::Sound::entry_ok, meaning::specs::Layout::all, meaning::specs::Pool::opened))]
+fn entry_ok(e: &[u8; entry::SIZE]) -> bool
     ensures { result ≡ entry_ok e.now }
 {
-    both(
-        agree(
-            fields::get_u16(e, entry::ROOT) == 0,
-            fields::get_u16(e, entry::COUNT) == 0,
-        ),
-        fields::all_zero(e, entry::ZEROS, entry::SIZE - entry::ZEROS),
-    )
+    let is_empty = fields::get::<u16>(e, entry::COUNT) == 0;
+    (fields::get::<u16>(e, entry::ROOT) == 0) == is_empty
+        && fields::all_zero(e, entry::ZEROS, entry::SIZE - entry::ZEROS)
+}
+
+// The tree entries.
+pub fn entries_ok(entries: &[[u8; entry::SIZE]]) -> bool
+    ensures { result ≡ every entry_ok entries.now }
+{
+    entries.iter().all(|e| entry_ok(e))
 }
 
 // A live record but for its balance and its tree: that the walks meet every live record says that its balance is
 // 0 to 2 and its tree one of this pool's. The name's length and the six zero bytes behind it are read as one number.
-fn live_ok(r: &[u8], used: u32, next: u32) -> bool
-    requires { length r.now ≡ 32 }
+// All tests hold in a sound pool, so none branches by itself. `used` and `next` are two numbers of the header, read
+// once: a struct of both would only be made and taken apart.
+fn live_ok(r: &[u8; record::SIZE], used: u32, next: u32) -> bool
     ensures { result ≡ live_in used next r.now }
 {
-    let stamp = fields::get_u32(r, record::STAMP);
-    let wide = fields::get_u64(r, record::NAME_LEN);
-    let end = fields::get_u32(r, record::NAME_START) as u64
-        + fields::get_u16(r, record::NAME_LEN) as u64;
-    let named = both(
-        both(1 <= wide, wide <= limit::NAME_LEN as u64),
-        end <= used as u64,
-    );
-    both(both(1 <= stamp, stamp < next), named)
+    let stamp = fields::get::<u32>(r, record::STAMP);
+    let wide = fields::get::<u64>(r, record::NAME_LEN);
+    let end = fields::get::<u32>(r, record::NAME_START) as u64
+        + fields::get::<u16>(r, record::NAME_LEN) as u64;
+    let named = (1 <= wide) & (wide <= limit::NAME_LEN as u64) & (end <= used as u64);
+    (1 <= stamp) & (stamp < next) & named
 }
 
 // A record: live, or 32 zero bytes.
-fn record_ok(r: &[u8], used: u32, next: u32) -> bool
-    requires { length r.now ≡ 32 }
+fn record_ok(r: &[u8; record::SIZE], used: u32, next: u32) -> bool
     ensures { result ≡ record_in used next r.now }
 {
-    if fields::get_u8(r, record::TREE) == 0 {
-        return fields::all_zero(r, 0, record::SIZE);
+    if fields::get::<u8>(r, record::TREE) == 0 {
+        fields::all_zero(r, 0, record::SIZE)
+    } else {
+        live_ok(r, used, next)
     }
-    live_ok(r, used, next)
 }
 
-// The tree entries.
-pub fn entries_ok(pool: &[u8], t: u16) -> bool
-    requires { 32 + 8 * t ≤ length pool.now }
-    ensures { result ≡ every entry_ok (rows t 8 (drop 32 pool.now)) }
-{
-    let mut i: usize = 0;
-    while i < t as usize {
-        let from = header::SIZE + entry::SIZE * i;
-        if !entry_ok(&pool[from..from + entry::SIZE]) {
-            return false;
-        }
-        i += 1;
-    }
-    true
+// The records of a pool, by slots: their bytes, and that a slot's number has two of them.
+#[derive(Clone, Copy)]
+pub struct Records<'a> {
+    pub rows: &'a [[u8; record::SIZE]],
+    pub ghost few: { length rows.now ≤ 65_535 },
+    pub ghost wide: { (i : ℕ) → i < length rows.now → length (slice_index_or rows.now i []) ≡ 32 },
+    pub ghost bytes: { Bytes (concat rows.now) },
 }
 
-// The records: whether all are good, and then how many are live and the lowest free slot.
-pub fn records_ok(pool: &[u8], at: usize, n: u16, used: u32, next: u32) -> Judged
-    requires { at + 32 * n ≤ length pool.now }
-    ensures { result ≡ counted used next 1 0 0 (rows n 32 (drop at pool.now)) }
-{
-    let mut i: usize = 0;
-    let mut live: u16 = 0;
-    let mut free: u16 = 0;
-    while i < n as usize {
-        let from = at + record::SIZE * i;
-        let r = &pool[from..from + record::SIZE];
-        if !record_ok(r, used, next) {
-            return Judged::UNSOUND;
-        }
-        if fields::get_u8(r, record::TREE) != 0 {
-            live += 1;
-        } else {
-            if free == 0 {
+impl Records<'_> {
+    // How many are live and the lowest free slot, or None if one is not good.
+    pub fn census(self, used: u32, next: u32) -> Option<Census>
+        ensures { result ≡ counted used next 1 0 0 self.entry.rows.now }
+    {
+        let mut live: u16 = 0;
+        let mut free: u16 = 0;
+        for (i, r) in self.rows.iter().enumerate() {
+            if !record_ok(r, used, next) {
+                return None;
+            }
+            if fields::get::<u8>(r, record::TREE) != 0 {
+                live += 1;
+            } else if free == 0 {
                 free = (i + 1) as u16;
             }
         }
-        i += 1;
-    }
-    Judged {
-        ok: true,
-        live,
-        free,
+        Some(Census { live, free })
     }
 }

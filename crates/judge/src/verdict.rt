@@ -1,101 +1,84 @@
 // The verdict on a pool, in one pass over each of its sections: judge, and the door check.
-ghost use Rattle.std.specs.Prelude.{◌≡◌, ◌+◌, ◌*◌, ◌≤◌, length, drop};
-ghost use Rattle.meaning.specs.Layout.{rows};
+ghost use Rattle.std.specs.Prelude.{◌≡◌, ◌≤◌, length};
+ghost use Rattle.meaning.specs.Layout.{concat};
 ghost use Rattle.meaning.specs.Sound.{sound};
 ghost use Rattle.meaning.specs.Doors.{check};
+ghost use Rattle.format.specs.Refusal.{code};
 ghost use Rattle.judge.specs.Check.{trees_n};
 ghost use Rattle.judge.specs.Rows.{judged};
 
-use super::rows::{entries_ok, header_ok, records_ok};
+use super::rows::{Records, entries_ok, header_ok};
 use super::walk::check_tree;
-use format::test::both;
-use format::{code, entry, header, record};
+use format::refusal::Refusal;
+use format::{entry, header, record};
 
-// Whether all is good, and then how many records are live and the lowest free slot, 0 for none.
+// Of a sound pool: how many records are live, and the lowest free slot. 0 for none and no Option: `free_slot`
+// of `meaning` gives 0 for none, and the numbers of a batch hold it so.
 #[derive(Clone, Copy)]
-pub struct Judged {
-    pub ok: bool,
+pub struct Census {
     pub live: u16,
     pub free: u16,
 }
 
-impl Judged {
-    pub const UNSOUND: Judged = Judged {
-        ok: false,
-        live: 0,
-        free: 0,
-    };
-}
-
 // The trees, each in one pass: every walk is good and as long as its count says, and together they
 // have all live records.
-fn trees_ok(pool: &[u8], nodes: &[u8], n: u16, t: u16, live: u16) -> bool
-    requires { (32 + 8 * t ≤ length pool.now) × (t ≤ 8) × (32 * n ≤ length nodes.now) }
-    ensures { result ≡ trees_n nodes.now n live 1 0 (rows t 8 (drop 32 pool.now)) }
+fn trees_ok(records: Records, entries: &[[u8; entry::SIZE]], live: u16) -> bool
+    requires { length entries.now ≤ 8 }
+    ensures { result ≡ trees_n (concat records.entry.rows.now) (length records.entry.rows.now) live 1 0 entries.now }
 {
-    let mut i: usize = 0;
     let mut total: u32 = 0;
-    while i < t as usize {
-        let from = header::SIZE + entry::SIZE * i;
-        let e = &pool[from..from + entry::SIZE];
-        let w = check_tree(nodes, n, (i + 1) as u8, fields::get_u16(e, entry::ROOT));
-        if w == 0 {
+    for (i, e) in entries.iter().enumerate() {
+        let count = fields::get::<u16>(e, entry::COUNT) as u32;
+        let root = fields::get::<u16>(e, entry::ROOT);
+        if check_tree(records, (i + 1) as u8, root) != Some(count) {
             return false;
         }
-        if w - 1 != fields::get_u16(e, entry::COUNT) as u32 {
-            return false;
-        }
-        total += w - 1;
-        i += 1;
+        total += count;
     }
     total == live as u32
 }
 
-// What the judgement of a pool tells: whether it is sound, and then how many records are live and the
-// lowest free slot, 0 for none.
-pub fn judge(pool: &[u8]) -> Judged
+// What is known of a pool once it is judged: that it is damaged, or its census.
+pub fn judge(pool: &[u8]) -> Result<Census, Refusal>
     ensures { result ≡ judged pool.now }
 {
     if !header_ok(pool) {
-        return Judged::UNSOUND;
+        return Err(Refusal::Damaged);
     }
-    let n = fields::get_u16(pool, header::SLOTS);
-    let t = fields::get_u16(pool, header::TREES);
-    let used = fields::get_u32(pool, header::TEXT_USED);
-    let next = fields::get_u32(pool, header::NEXT_STAMP);
-    let at = header::SIZE + entry::SIZE * t as usize;
-    let end = at + record::SIZE * n as usize;
-    if !entries_ok(pool, t) {
-        return Judged::UNSOUND;
+    let used = fields::get::<u32>(pool, header::TEXT_USED);
+    let next = fields::get::<u32>(pool, header::NEXT_STAMP);
+    let at = header::SIZE + entry::SIZE * fields::get::<u16>(pool, header::TREES) as usize;
+    let end = at + record::SIZE * fields::get::<u16>(pool, header::SLOTS) as usize;
+    let (entries, _) = pool[header::SIZE..at].as_chunks::<{ entry::SIZE }>();
+    let (rows, _) = pool[at..end].as_chunks::<{ record::SIZE }>();
+    if !entries_ok(entries) {
+        return Err(Refusal::Damaged);
     }
-    let r = records_ok(pool, at, n, used, next);
-    if !r.ok {
-        return Judged::UNSOUND;
+    let records = Records { rows };
+    let Some(census) = records.census(used, next) else {
+        return Err(Refusal::Damaged);
+    };
+    let text = end + used as usize;
+    if !fields::all_zero(pool, text, pool.len() - text)
+        || fields::get::<u16>(pool, header::LIVE) != census.live
+        || !trees_ok(records, entries, census.live)
+    {
+        return Err(Refusal::Damaged);
     }
-    let text_ok = fields::all_zero(pool, end + used as usize, pool.len() - end - used as usize);
-    let live_ok = fields::get_u16(pool, header::LIVE) == r.live;
-    if !both(
-        text_ok,
-        both(trees_ok(pool, &pool[at..end], n, t, r.live), live_ok),
-    ) {
-        return Judged::UNSOUND;
-    }
-    r
+    Ok(census)
 }
 
 // Whether the pool is sound.
 pub fn is_sound(pool: &[u8]) -> bool
     ensures { result ≡ sound pool.now }
 {
-    judge(pool).ok
+    judge(pool).is_ok()
 }
 
-// DONE for a sound pool, else DAMAGED.
-pub fn check(pool: &[u8]) -> u8
-    ensures { result ≡ check pool.now }
+// Whether the pool is sound, as the door tells it.
+pub fn check(pool: &[u8]) -> Result<(), Refusal>
+    ensures { code result ≡ check pool.now }
 {
-    if is_sound(pool) {
-        return code::DONE;
-    }
-    code::DAMAGED
+    judge(pool)?;
+    Ok(())
 }

@@ -1,15 +1,7 @@
 -- How long a listing is at most. A number has at most 20 digits, a name 255 bytes, and the trees of a well-formed pool together have at most as many
 -- records as the pool has slots. Assumes nothing.
-use mathlib.Core.Bool.{Bool, true, false, cond}
-use mathlib.Core.List.{List, [], ◌∷◌, ◌++◌, map}
-use mathlib.Core.Option.{Option, none, some}
-use mathlib.Core.Path.{◌≡◌, refl, sym, ap, subst}
-use Prim.Native.Nat.{ℕ, zero, suc, ◌+◌, ◌*◌, ◌/◌, ◌%◌, ◌≤◌, ◌<◌}
-use native.Mathlib.Omega.{arith}
-use lib.Dec.{eqb, ltb}
-use lib.ListN.{length, drop, length-append, drop_of_length-le}
-use lib.Seq.{drop-cons}
-use borrow.Author.Tests.{ltb-true, ltb-false, le-ltb, ne_eqb}
+use Rattle.std.proofs.Common.{◌≡◌, ℕ, zero, suc, ◌+◌, ◌*◌, ◌/◌, ◌%◌, ◌<◌, ◌≤◌, Bool, true, false, cond, eqb, ltb, List, [], ◌∷◌, ◌++◌, map, length, drop, sym, refl, ap, subst, arith, length-append, drop_of_length-le, drop-cons, ltb-false, ltb-true, le-ltb, ne_eqb}
+use Rattle.std.proofs.Math.Option.{Option, none, some}
 use Rattle.fields.specs.Part.{part}
 use Rattle.fields.proofs.Parts.{length_part}
 use Rattle.avl.specs.Tree.{left, Tree, leaf, list}

@@ -1,11 +1,7 @@
 -- What a line is made of, read of the body of a well-formed pool: a record's links and its name. Assumes nothing.
-use mathlib.Core.List.{[], ◌++◌}
-use mathlib.Core.Option.{some}
-use mathlib.Core.Path.{◌≡◌, ap, ◌∙◌}
-use Prim.Native.Nat.{ℕ, zero, suc, ◌+◌, ◌*◌, ◌-◌, ◌≤◌}
-use native.Mathlib.Omega.{arith}
-use lib.Dec.{eqb-suc-zero}
-use lib.ListN.{length, replicate}
+use Rattle.std.proofs.Common.{◌≡◌, ℕ, zero, suc, ◌+◌, ◌-◌, ◌*◌, ◌≤◌, [], ◌++◌, length, replicate, ap, ◌∙◌, arith}
+use Rattle.std.proofs.Math.Dec.{eqb-suc-zero}
+use Rattle.std.proofs.Math.Option.{some}
 use Rattle.fields.specs.Number.{get_le}
 use Rattle.fields.specs.Part.{part}
 use Rattle.fields.proofs.Parts.{part_append_left, part_append_right}

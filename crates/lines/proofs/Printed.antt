@@ -1,15 +1,8 @@
 -- What is read off the head and the body of a well-formed pool is the text that `meaning` says of the pool: its first line, a record's line, a
 -- tree's lines and those of all trees. Assumes nothing.
-use mathlib.Core.Bool.{true}
-use mathlib.Core.List.{List, [], ◌∷◌, ◌++◌, map, append_assoc, append-nil}
-use mathlib.Core.Path.{◌≡◌, refl, sym, ap, ap₂, ◌∙◌, subst}
-use Prim.Native.Nat.{ℕ, zero, suc, ◌+◌, ◌*◌, ◌≤◌, ◌<◌}
-use native.Mathlib.Decide.{dec_lt}
-use native.Mathlib.Omega.{arith}
-use lib.Dec.{eqb, eqb-suc-zero}
-use lib.ListN.{length, get_or, drop, drop_of_length-le}
-use lib.Seq.{drop-cons}
-use borrow.Author.Tests.{eq-eqb, le-ltb}
+use Rattle.std.proofs.Common.{◌≡◌, ℕ, zero, suc, ◌+◌, ◌*◌, ◌<◌, ◌≤◌, true, eqb, List, [], ◌∷◌, ◌++◌, map, length, get_or, drop, sym, refl, ap, ◌∙◌, subst, ap₂, append_assoc, append-nil, arith, drop_of_length-le, drop-cons, le-ltb, eq-eqb}
+use Rattle.std.proofs.Math.Dec.{eqb-suc-zero}
+use Rattle.std.proofs.Math.Decide.{dec_lt}
 use Rattle.fields.specs.Part.{part}
 use Rattle.avl.specs.Tree.{left, right, Tree, leaf, list}
 use Rattle.avl.specs.Order.{All, first}

@@ -1,2 +1,4 @@
 pub mod Text
 pub mod Line
+pub mod Writer
+pub mod Opened

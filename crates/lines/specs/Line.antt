@@ -17,6 +17,10 @@ use Rattle.lines.specs.Text.{field, fields}
 unfoldable pub first_n : Head → List ℕ
 first_n h = let n = h.numbers in (112 ∷ 111 ∷ 111 ∷ 108 ∷ 32 ∷ []) ++ (fields (n.slots ∷ n.trees ∷ n.live ∷ n.used ∷ []) ++ field n.next 10)
 
+-- "refused " and a number
+unfoldable pub refused_n : ℕ → List ℕ
+refused_n number = (114 ∷ 101 ∷ 102 ∷ 117 ∷ 115 ∷ 101 ∷ 100 ∷ 32 ∷ []) ++ field number 10
+
 -- the line of slot x, whose fields are v, in tree t of a pool of N slots
 unfoldable pub line_of_n : List ℕ → ℕ → ℕ → ℕ → Record → List ℕ
 line_of_n m N t x v =

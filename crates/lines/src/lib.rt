@@ -1,13 +1,13 @@
 // Lines: the text of a pool's listing.
 //
-// A text is written into a lent buffer at a place, and its writer gives back the place behind it:
-// `wrote` of specs/Text.antt. The private writers ask that their text fits; `listing` asks nothing,
-// since every listing fits in LIMIT bytes.
+// A `Writer` holds a lent buffer and how much of it is written; what a method leaves is `wrote` of
+// specs/Text.antt. Its methods are private to the crate and ask that their text fits; `listing` asks
+// nothing, since every listing fits in LIMIT bytes.
 //
 // | file     | what it writes                                                            |
 // |----------|---------------------------------------------------------------------------|
-// | text.rt  | a byte, a text, a number, numbers, bytes in hexadecimal                    |
-// | line.rt  | the first line, a record's line, a tree's lines, those of all trees        |
+// | text.rt  | `Writer`: a byte, a text, a number, numbers, bytes in hexadecimal          |
+// | line.rt  | its lines: the first, a record's, a tree's, those of all trees             |
 // | whole.rt | the listing                                                                |
 #![tactic(auto)]
 

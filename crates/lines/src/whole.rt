@@ -2,8 +2,8 @@
 ghost use Rattle.std.specs.Prelude.{◌≡◌};
 ghost use Rattle.meaning.specs.Listing.{listed};
 
-use super::line::{put_first, put_trees};
-use super::text::{put_field, put_text};
+use super::line::Opened;
+use super::text::Writer;
 use judge::verdict::judge;
 use slots::head::load;
 
@@ -11,21 +11,29 @@ use slots::head::load;
 pub const LIMIT: usize = 655_360;
 
 // The text of a pool's listing, at the start of `out`: its length; 0, and nothing written, if `out`
-// has fewer than LIMIT bytes, which every listing fits in.
+// has fewer than LIMIT bytes, which every listing fits in. 0 and no Option, since `listed` is what
+// the listing is believed to be, and answers so.
 pub fn listing(pool: &[u8], out: &mut [u8]) -> usize
     ensures { (out.new, result) ≡ listed pool.now out.old }
 {
     if out.len() < LIMIT {
         return 0;
     }
-    let j = judge(pool);
-    if !j.ok {
-        let word = put_text(out, 0, b"refused ");
-        return put_field(out, word, format::code::DAMAGED as u64, b'\n');
-    }
-    let h = load(pool, j.live, j.free);
-    let at = format::header::SIZE + format::entry::SIZE * h.numbers.trees as usize;
-    let body = &pool[at..];
-    let next = put_first(out, 0, h);
-    put_trees(out, next, body, h)
+    let mut writer = Writer { out, at: 0 };
+    let census = match judge(pool) {
+        Ok(census) => census,
+        Err(why) => {
+            writer.refused(why);
+            return writer.at;
+        }
+    };
+    let head = load(pool, census.live, census.free);
+    let start = format::header::SIZE + format::entry::SIZE * head.numbers.trees as usize;
+    let opened = Opened {
+        head,
+        body: &pool[start..],
+    };
+    writer.first_line(&opened.head);
+    writer.trees(&opened);
+    writer.at
 }

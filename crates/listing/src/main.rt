@@ -5,15 +5,10 @@
 use console::{print, read, space};
 use lines::listing;
 
-// Prints the listing of a pool, by way of `text`.
-fn show(pool: &[u8], text: &mut [u8]) {
-    let n = listing(pool, text);
-    print::first(n, text);
-}
-
 fn main() {
-    let mut pool = space::input();
-    let mut text = space::text();
+    let mut pool = space::all_of::<{ space::INPUT }>(0);
+    let mut text = space::all_of::<{ space::TEXT }>(0);
     let n = read::all(&mut pool);
-    show(&pool[..n], &mut text);
+    let length = listing(&pool[..n], &mut text);
+    print::first(length, &text);
 }

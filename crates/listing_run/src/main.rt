@@ -8,34 +8,30 @@ use lines::listing;
 
 // Prints the number of a case and the listing of its pool, by way of `text`.
 fn show(number: u64, pool: &[u8], text: &mut [u8]) {
-    print::number_line(b"case ", number);
+    print::line(format_args!("case {number}"));
     let n = listing(pool, text);
     print::first(n, text);
 }
 
 // The cases of the input, of which there are fewer than 100.
 fn show_all(input: &[u8], text: &mut [u8]) {
-    let mut at: usize = 0;
-    let mut number: u64 = 1;
-    while number < 100 {
-        if input.len() - at < 4 {
+    let mut left = input;
+    for number in 1..100 {
+        let Some((size, behind)) = left.split_first_chunk::<4>() else {
             return;
-        }
-        let size = fields::get_u32(input, at) as usize;
-        let from = at + 4;
-        if input.len() - from < size {
+        };
+        let size = u32::from_le_bytes(*size) as usize;
+        let Some((pool, next)) = behind.split_at_checked(size) else {
             return;
-        }
-        let end = from + size;
-        show(number, &input[from..end], text);
-        at = end;
-        number += 1;
+        };
+        show(number, pool, text);
+        left = next;
     }
 }
 
 fn main() {
-    let mut input = space::input();
-    let mut text = space::text();
+    let mut input = space::all_of::<{ space::INPUT }>(0);
+    let mut text = space::all_of::<{ space::TEXT }>(0);
     let n = read::all(&mut input);
     show_all(&input[..n], &mut text);
 }

@@ -1,11 +1,7 @@
 -- What each act of a command leaves: a well-formed pool with its journal, and the records that live on, so that a cursor put on one of them fits.
 -- Assumes nothing.
-use mathlib.Core.List.{List}
-use mathlib.Core.Option.{Option, none, some}
-use mathlib.Core.Path.{◌≡◌, refl, ap, ◌∙◌}
-use Prim.Native.Nat.{ℕ, ◌≤◌}
-use lib.ListN.{length}
-use borrow.Author.Tests.{eq-eqb}
+use Rattle.std.proofs.Common.{◌≡◌, ℕ, ◌≤◌, List, length, refl, ap, ◌∙◌, eq-eqb}
+use Rattle.std.proofs.Math.Option.{Option, none, some}
 use Rattle.avl.specs.Tree.{Dir, left, right, pick, list}
 use Rattle.avl.specs.Search.{toward, add}
 use Rattle.avl.specs.Order.{first}

@@ -1,13 +1,7 @@
 -- The ops that add: what one that is not refused may rely on. Its key is new in its tree, in one of four ways. Assumes nothing.
-use mathlib.Core.Bool.{true, false, ◌&&◌, cond}
-use mathlib.Core.List.{List, [], ◌∷◌}
-use mathlib.Core.Option.{Option}
-use mathlib.Core.Path.{◌≡◌, refl, sym, ap, subst}
-use Prim.Native.Nat.{ℕ, ◌+◌, ◌≤◌}
-use native.Mathlib.Omega.{arith}
-use lib.Dec.{eqb}
-use lib.ListN.{length}
-use borrow.Author.Tests.{ltb-false, eqb-true, eqb-false, not-false}
+use Rattle.std.proofs.Common.{◌≡◌, ℕ, ◌+◌, ◌≤◌, true, false, cond, ◌&&◌, eqb, List, [], ◌∷◌, length, sym, refl, ap, subst, arith, ltb-false, eqb-true}
+use Rattle.std.proofs.Math.Option.{Option}
+use Rattle.std.proofs.lemmas.Bool.{eqb-false, not-false}
 use Rattle.avl.specs.Tree.{Dir, left, right, flip, pick, top, list}
 use Rattle.avl.specs.Search.{Spot, get}
 use Rattle.avl.specs.Order.{nil, more, first}

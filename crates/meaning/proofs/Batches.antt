@@ -1,13 +1,6 @@
 -- A batch: its commands are as bytes give them, and a row of commands keeps a state good to its end. Assumes nothing.
-use mathlib.Core.Bool.{true, ◌&&◌}
-use mathlib.Core.List.{List, [], ◌∷◌, map}
-use mathlib.Core.Option.{Option, none}
-use mathlib.Core.Path.{◌≡◌, sym, subst}
-use Prim.Native.Nat.{ℕ, zero, suc, ◌+◌, ◌*◌, ◌≤◌}
-use native.Mathlib.Omega.{arith}
-use lib.Dec.{leb}
-use lib.ListN.{length, take, drop}
-use borrow.Author.Tests.{leb-true}
+use Rattle.std.proofs.Common.{◌≡◌, ℕ, zero, suc, ◌+◌, ◌*◌, ◌≤◌, true, ◌&&◌, leb, List, [], ◌∷◌, map, length, take, drop, sym, subst, arith, leb-true}
+use Rattle.std.proofs.Math.Option.{Option, none}
 use Rattle.fields.specs.Number.{get_le, Bytes}
 use Rattle.fields.specs.Part.{part}
 use Rattle.fields.proofs.Parts.{within?, part_in, part_out, length_part}

@@ -1,14 +1,10 @@
 -- What a handle can mean: a stamp that was handed out is given to no other record, so whatever holds of the record that slot x can hold with the
 -- stamp g, now and at the open mark, holds for ever. Also: the next stamp never falls, and a record is the same before and after a mark.
 -- Assumes nothing.
-use mathlib.Core.List.{List, ◌++◌}
-use mathlib.Core.Option.{Option, none, some, some-injective}
-use mathlib.Core.Path.{◌≡◌, refl, sym, ap, ◌∙◌, subst}
-use Prim.Native.Nat.{ℕ, zero, suc, ◌≤◌, ◌<◌}
-use native.Mathlib.Omega.{arith}
-use lib.Dec.{eqb}
-use lib.ListN.{get_or-map}
-use borrow.Author.Tests.{eqb-true, eqb-false}
+use Rattle.std.proofs.Common.{◌≡◌, ℕ, zero, suc, ◌<◌, ◌≤◌, eqb, List, ◌++◌, sym, refl, ap, ◌∙◌, subst, arith, eqb-true}
+use Rattle.std.proofs.Math.ListN.{get_or-map}
+use Rattle.std.proofs.Math.Option.{Option, none, some, some-injective}
+use Rattle.std.proofs.lemmas.Bool.{eqb-false}
 use Rattle.fields.specs.Part.{part}
 use Rattle.fields.proofs.Parts.{part_append_left}
 use Rattle.meaning.specs.Layout.{at}

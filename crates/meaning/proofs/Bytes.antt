@@ -1,8 +1,5 @@
 -- What is made of bytes is bytes: lists in a row, zeros, digits, packed fields. Assumes nothing.
-use mathlib.Core.List.{List, [], ◌∷◌, ◌++◌}
-use Prim.Native.Nat.{ℕ, zero, suc, ◌/◌, ◌<◌}
-use native.Mathlib.Omega.{arith}
-use lib.ListN.{get_or, replicate}
+use Rattle.std.proofs.Common.{ℕ, zero, suc, ◌/◌, ◌<◌, List, [], ◌∷◌, ◌++◌, get_or, replicate, arith}
 use Rattle.fields.specs.Number.{digits, Bytes}
 use Rattle.meaning.specs.Layout.{pack}
 

@@ -1,9 +1,5 @@
 -- The cases P1 to P10 of docs/REFERENCE.md (10.6): one table, one claim; their pools are sound and read back to the same bytes. Assumes nothing.
-use mathlib.Core.Bool.{Bool, true}
-use mathlib.Core.List.{List, [], ◌∷◌, ◌++◌, map}
-use mathlib.Core.Path.{◌≡◌, refl}
-use Prim.Native.Nat.{ℕ, zero, suc, ◌+◌, ◌*◌}
-use lib.ListN.{length, drop, replicate}
+use Rattle.std.proofs.Common.{◌≡◌, ℕ, zero, suc, ◌+◌, ◌*◌, Bool, true, List, [], ◌∷◌, ◌++◌, map, length, drop, replicate, refl}
 use Rattle.fields.specs.Number.{get_le}
 use Rattle.meaning.specs.Layout.{every, concat}
 use Rattle.meaning.specs.Pool.{bytes, read}

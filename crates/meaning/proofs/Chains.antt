@@ -1,13 +1,8 @@
 -- The table of refusals read off in two ways: the number given is that of the first row that applies; and for each op the tests made at it, in
 -- their order. Assumes nothing.
-use mathlib.Core.Bool.{Bool, true, false, not, ◌&&◌, cond, beq}
-use mathlib.Core.List.{List, [], ◌∷◌}
-use mathlib.Core.Path.{◌≡◌, refl, sym, ap, ◌∙◌}
-use Prim.Native.Nat.{ℕ, zero, suc, ◌≤◌, ◌<◌}
-use native.Mathlib.Omega.{arith}
-use lib.Dec.{leb, eqb}
-use lib.ListN.{length, take}
-use borrow.Author.Tests.{eqb-true, eq-eqb, le-leb, not-true}
+use Rattle.std.proofs.Common.{◌≡◌, ℕ, zero, suc, ◌<◌, ◌≤◌, Bool, true, false, cond, not, ◌&&◌, eqb, leb, List, [], ◌∷◌, length, take, sym, refl, ap, ◌∙◌, arith, eq-eqb, eqb-true, le-leb}
+use Rattle.std.proofs.Math.Bool.{beq}
+use Rattle.std.proofs.lemmas.Bool.{not-true}
 use Rattle.avl.specs.Order.{All, nil, more}
 use Rattle.meaning.specs.Layout.{within, every, span}
 use Rattle.meaning.specs.Cursor.{Command, State}

@@ -1,12 +1,9 @@
 -- A pool stays well-formed when a record is put into a slot or taken out, when a record is added, and when it is emptied; a fresh pool is so.
 -- Assumes nothing.
 pub use Rattle.meaning.proofs.Members.{slot_in as live_slot}
-use mathlib.Core.List.{List, [], ◌∷◌, ◌++◌, map}
-use mathlib.Core.Option.{Option, none, some}
-use mathlib.Core.Path.{◌≡◌, refl, sym, ap, subst}
-use Prim.Native.Nat.{ℕ, zero, suc, ◌+◌, ◌≤◌, ◌<◌, ◌^◌}
-use native.Mathlib.Omega.{arith}
-use lib.ListN.{length, get_or, replicate, length-append, length-replicate}
+use Rattle.std.proofs.Common.{◌≡◌, ℕ, zero, suc, ◌+◌, ◌^◌, ◌<◌, ◌≤◌, List, [], ◌∷◌, ◌++◌, map, length, get_or, replicate, sym, refl, ap, subst, arith, length-append}
+use Rattle.std.proofs.Math.Option.{Option, none, some}
+use Rattle.std.proofs.lemmas.List.{length-replicate}
 use Rattle.avl.specs.Tree.{left, Tree, leaf, list, Balanced}
 use Rattle.avl.specs.Order.{nil, into, out}
 use Rattle.meaning.specs.Layout.{at, count}

@@ -1,13 +1,6 @@
 -- What soundness says, as records of named facts: of the header, of an entry, of a record, of a tree and of the whole. Assumes nothing.
-use mathlib.Core.Bool.{Bool, true, false, not, cond, beq}
-use mathlib.Core.List.{List, [], ◌∷◌, map}
-use mathlib.Core.Path.{◌≡◌, refl, sym, ◌∙◌, subst}
-use Prim.Native.Nat.{ℕ, zero, suc, ◌+◌, ◌*◌, ◌≤◌, ◌<◌}
-use native.Mathlib.Omega.{arith}
-use native.Mathlib.Nat.{add-zero}
-use lib.Dec.{leb, ltb, eqb}
-use lib.ListN.{length, get_or, drop}
-use borrow.Author.Tests.{eqb-true, leb-true, ltb-true, eq-eqb, lt-ltb}
+use Rattle.std.proofs.Common.{◌≡◌, ℕ, zero, suc, ◌+◌, ◌*◌, ◌<◌, ◌≤◌, Bool, true, false, cond, not, eqb, ltb, leb, List, [], ◌∷◌, map, length, get_or, drop, sym, refl, ◌∙◌, subst, add-zero, arith, ltb-true, lt-ltb, eq-eqb, eqb-true, leb-true}
+use Rattle.std.proofs.Math.Bool.{beq}
 use Rattle.fields.specs.Part.{zeros}
 use Rattle.avl.specs.Tree.{left, right, Tree, leaf, node, list, height, tilt, Balanced}
 use Rattle.avl.specs.Order.{All, Sorted}

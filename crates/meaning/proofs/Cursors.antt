@@ -1,12 +1,6 @@
 -- Records of a tree, and the cursor on them: what it stands at and what it has beside it are live records of its tree. Assumes nothing.
-use mathlib.Core.Bool.{true}
-use mathlib.Core.List.{◌∷◌, ◌++◌}
-use mathlib.Core.Path.{◌≡◌, refl, sym, ap, ◌∙◌, subst}
-use Prim.Native.Nat.{ℕ, ◌≤◌, Ordering}
-use native.Mathlib.Omega.{arith}
-use lib.Dec.{eqb}
-use lib.ListN.{length}
-use borrow.Author.Tests.{eq-eqb}
+use Rattle.std.proofs.Common.{◌≡◌, ℕ, ◌≤◌, true, eqb, ◌∷◌, ◌++◌, length, sym, refl, ap, ◌∙◌, subst, arith, eq-eqb}
+use Prim.Native.Nat.{Ordering}
 use Rattle.avl.specs.Tree.{Dir, left, right, flip, alike, Bal, Tree, leaf, node, list}
 use Rattle.avl.specs.Way.{Way, root, plug, above, side, before, after}
 use Rattle.avl.specs.Search.{Spot, entry}

@@ -1,11 +1,7 @@
 -- What is sound and what is not, on the bytes of P1's pool with some of them changed; and what the listing prints. Assumes nothing.
-use mathlib.Core.Bool.{true, not}
-use mathlib.Core.List.{List, [], ◌∷◌, ◌++◌}
-use mathlib.Core.Path.{◌≡◌, refl}
+use Rattle.std.proofs.Common.{◌≡◌, ℕ, true, not, List, [], ◌∷◌, ◌++◌, take, set, replicate, refl}
 use Prim.Native.Char.{code}
-use Prim.Native.Nat.{ℕ}
 use Prim.Native.String.{String}
-use lib.ListN.{take, set, replicate}
 use Rattle.meaning.specs.Layout.{every}
 use Rattle.meaning.specs.Pool.{bytes}
 use Rattle.meaning.specs.Sound.{sound}

@@ -1,13 +1,6 @@
 -- Demand 1, the commands. A refused command returns its number and zeroed record fields and changes no byte of the pool; and which refusals there are,
 -- each with its exact condition. Assumes nothing.
-use mathlib.Core.Bool.{Bool, true, cond}
-use mathlib.Core.List.{[], ◌∷◌}
-use mathlib.Core.Path.{◌≡◌, refl, sym, ap, ◌∙◌, subst}
-use Prim.Native.Nat.{ℕ, ◌≤◌, ◌<◌}
-use native.Mathlib.Omega.{arith}
-use lib.Dec.{eqb}
-use lib.ListN.{length}
-use borrow.Author.Tests.{ne_eqb}
+use Rattle.std.proofs.Common.{◌≡◌, ℕ, ◌<◌, ◌≤◌, Bool, true, cond, eqb, [], ◌∷◌, length, sym, refl, ap, ◌∙◌, subst, arith, ne_eqb}
 use Rattle.avl.specs.Order.{nil, more}
 use Rattle.meaning.specs.Layout.{within, every, span}
 use Rattle.meaning.specs.Cursor.{Command, State}

@@ -2,14 +2,9 @@
 -- tied to them, and that every command of a batch begins in a state to which the laws of single commands apply. Those are in Demand2Looks (what is shown),
 -- Demand2Changes (what is added and removed), Demand2Shapes (the trees), Demand2Codes and Demand2Handles (when it
 -- is refused). Assumes nothing.
-use mathlib.Core.Bool.{Bool, true, cond}
-use mathlib.Core.List.{List, [], ◌∷◌, ◌++◌, map}
-use mathlib.Core.Option.{Option, some}
-use mathlib.Core.Path.{◌≡◌, sym, ap, ◌∙◌, subst}
-use Prim.Native.Nat.{ℕ, ◌*◌, ◌≤◌, ◌<◌}
-use native.Mathlib.Omega.{arith}
-use lib.ListN.{length, drop, length-map}
-use borrow.Author.Tests.{eq-eqb}
+use Rattle.std.proofs.Common.{◌≡◌, ℕ, ◌*◌, ◌<◌, ◌≤◌, Bool, true, cond, List, [], ◌∷◌, ◌++◌, map, length, drop, sym, ap, ◌∙◌, subst, arith, eq-eqb}
+use Rattle.std.proofs.Math.Option.{Option, some}
+use Rattle.std.proofs.lemmas.List.{length-map}
 use Rattle.fields.specs.Number.{Bytes}
 use Rattle.fields.specs.Part.{part}
 use Rattle.avl.specs.Tree.{left, top, list, Balanced}

@@ -1,14 +1,7 @@
 -- Demand 2, the ops that change the pool, over the lists alone: what is added and removed, what stays as it was, and the shape of the tree after it.
 -- Assumes nothing.
-use mathlib.Core.Bool.{Bool, true, false, not, cond}
-use mathlib.Core.List.{List, [], ◌∷◌}
-use mathlib.Core.Option.{Option, none, some}
-use mathlib.Core.Path.{◌≡◌, refl, sym, ap, ap₂, ◌∙◌, subst}
-use Prim.Native.Nat.{ℕ}
-use native.Mathlib.Omega.{arith}
-use lib.Dec.{leb, ltb, eqb}
-use lib.ListN.{length}
-use borrow.Author.Tests.{eq-eqb, le-leb}
+use Rattle.std.proofs.Common.{◌≡◌, ℕ, Bool, true, false, cond, not, eqb, ltb, leb, List, [], ◌∷◌, length, sym, refl, ap, ◌∙◌, subst, ap₂, arith, eq-eqb, le-leb}
+use Rattle.std.proofs.Math.Option.{Option, none, some}
 use Rattle.avl.specs.Tree.{left, list}
 use Rattle.meaning.specs.Layout.{within}
 use Rattle.meaning.specs.Pool.{Pool, tree_at}

@@ -1,11 +1,7 @@
 -- Demand 2, handles over the lists alone: what each of the three tests of a slot and a stamp says. Assumes nothing.
-use mathlib.Core.Bool.{true, false, not}
-use mathlib.Core.Option.{Option, none, some}
-use mathlib.Core.Path.{◌≡◌, refl, sym, ap, ◌∙◌}
-use Prim.Native.Nat.{ℕ}
-use lib.Dec.{leb, eqb}
-use lib.ListN.{length}
-use borrow.Author.Tests.{eqb-false, ne_eqb, not-true, eqb-true, eq-eqb, le-leb, not-false}
+use Rattle.std.proofs.Common.{◌≡◌, ℕ, true, false, not, eqb, leb, length, sym, refl, ap, ◌∙◌, eq-eqb, ne_eqb, eqb-true, le-leb}
+use Rattle.std.proofs.Math.Option.{Option, none, some}
+use Rattle.std.proofs.lemmas.Bool.{eqb-false, not-true, not-false}
 use Rattle.meaning.specs.Layout.{within}
 use Rattle.meaning.specs.Pool.{Rec, Pool, rec_at, lives_in}
 use Rattle.meaning.specs.Cursor.{Command, State}

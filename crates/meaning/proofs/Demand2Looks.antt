@@ -1,9 +1,6 @@
 -- Demand 2, the ops that look, over the lists alone: what is shown, and when there is none, a key is present or out of order. Assumes nothing.
-use mathlib.Core.Bool.{Bool, true, false, not, ◌&&◌}
-use mathlib.Core.List.{List}
-use mathlib.Core.Option.{Option}
-use mathlib.Core.Path.{◌≡◌, refl, sym, ap, ap₂, ◌∙◌, subst}
-use Prim.Native.Nat.{ℕ}
+use Rattle.std.proofs.Common.{◌≡◌, ℕ, Bool, true, false, not, ◌&&◌, List, sym, refl, ap, ◌∙◌, subst, ap₂}
+use Rattle.std.proofs.Math.Option.{Option}
 use Rattle.avl.specs.Tree.{Dir, flip, Tree, leaf, node, top}
 use Rattle.avl.specs.Way.{Way, above, side, after}
 use Rattle.avl.specs.Search.{Spot, get, entry}

@@ -1,12 +1,7 @@
 -- Demand 2, the door Name over the lists alone. Assumes nothing.
-use mathlib.Core.Bool.{Bool, true, false, not, cond}
-use mathlib.Core.List.{List, []}
-use mathlib.Core.Option.{Option, none, some}
-use mathlib.Core.Path.{◌≡◌, refl, sym, ap, ◌∙◌}
-use Prim.Native.Nat.{ℕ, ◌+◌, ◌≤◌}
-use lib.Dec.{leb, eqb}
-use lib.ListN.{length, take, drop, take-append-drop}
-use borrow.Author.Tests.{eqb-true, eqb-false, eq-eqb, le-leb, not-false}
+use Rattle.std.proofs.Common.{◌≡◌, ℕ, ◌+◌, ◌≤◌, Bool, true, false, cond, not, eqb, leb, List, [], length, take, drop, sym, refl, ap, ◌∙◌, take-append-drop, eq-eqb, eqb-true, le-leb}
+use Rattle.std.proofs.Math.Option.{Option, none, some}
+use Rattle.std.proofs.lemmas.Bool.{eqb-false, not-false}
 use Rattle.fields.specs.Number.{Bytes}
 use Rattle.fields.specs.Part.{part}
 use Rattle.fields.proofs.Parts.{part_append_left}

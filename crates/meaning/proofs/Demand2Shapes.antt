@@ -1,11 +1,8 @@
 -- Demand 2, the shapes: which of the Rust's edits gives the tree after each op that changes one. The edits are those of the crate avl (specs/Edit.antt),
 -- which pairs each with its Rust function. Assumes nothing.
-use mathlib.Core.Bool.{Bool, true, false, cond}
-use mathlib.Core.List.{List, [], ◌∷◌, ◌++◌}
-use mathlib.Core.Option.{Option}
-use mathlib.Core.Path.{◌≡◌, refl, sym, ap, ◌∙◌, subst}
-use Prim.Native.Nat.{ℕ, Ordering}
-use native.Mathlib.Omega.{arith}
+use Rattle.std.proofs.Common.{◌≡◌, ℕ, Bool, true, false, cond, List, [], ◌∷◌, ◌++◌, sym, refl, ap, ◌∙◌, subst, arith}
+use Rattle.std.proofs.Math.Option.{Option}
+use Prim.Native.Nat.{Ordering}
 use Rattle.avl.specs.Tree.{Dir, left, right, flip, Bal, Tree, leaf, node, branch, list}
 use Rattle.avl.specs.Way.{Way, step, plug, before, after}
 use Rattle.avl.specs.Edit.{insert, insert_here, remove}

@@ -1,9 +1,7 @@
 -- Demand 3: a rollback, by command or at the batch's end, gives back what the pool held at the mark, and every handle handed out in between is
 -- refused from then on. Over the bytes that the doors are lent and leave, and over what a batch means; Calls has the words. Assumes nothing.
-use mathlib.Core.List.{List, [], ◌∷◌, ◌++◌, append-nil}
-use mathlib.Core.Option.{Option, none, some}
-use mathlib.Core.Path.{◌≡◌, sym, ap, ◌∙◌, subst}
-use Prim.Native.Nat.{ℕ, ◌≤◌, ◌<◌}
+use Rattle.std.proofs.Common.{◌≡◌, ℕ, ◌<◌, ◌≤◌, List, [], ◌∷◌, ◌++◌, sym, ap, ◌∙◌, subst, append-nil}
+use Rattle.std.proofs.Math.Option.{Option, none, some}
 use Rattle.meaning.specs.Pool.{Pool, bytes, read}
 use Rattle.meaning.specs.Change.{rolled_back}
 use Rattle.meaning.specs.Cursor.{Command, State}

@@ -1,5 +1,5 @@
 -- A promise that leaves no choice. Assumes nothing.
-use mathlib.Core.Path.{◌≡◌, sym, ◌∙◌}
+use Rattle.std.proofs.Common.{◌≡◌, sym, ◌∙◌}
 
 -- Every public promise is an equation of the result, final bytes included, with a function of the inputs. Two results that such a promise allows
 -- are equal. DoorsDetermined says so of each door.

@@ -1,12 +1,7 @@
 -- What a command that is done does, by its kind: it adds a record and shows its handle, removes the record meant, or is a mark, a rollback, a commit
 -- or a reset. Assumes nothing.
-use mathlib.Core.Bool.{true}
-use mathlib.Core.List.{List, [], ◌∷◌, append-nil}
-use mathlib.Core.Option.{Option, none, some}
-use mathlib.Core.Path.{◌≡◌, refl, sym, ap, ◌∙◌}
-use Prim.Native.Nat.{ℕ, ◌<◌, ◌^◌}
-use native.Mathlib.Omega.{arith}
-use borrow.Author.Tests.{eq-eqb}
+use Rattle.std.proofs.Common.{◌≡◌, ℕ, ◌^◌, ◌<◌, true, List, [], ◌∷◌, sym, refl, ap, ◌∙◌, append-nil, arith, eq-eqb}
+use Rattle.std.proofs.Math.Option.{Option, none, some}
 use Rattle.fields.specs.Number.{get_le}
 use Rattle.avl.specs.Order.{nil, more}
 use Rattle.meaning.specs.Layout.{within, every, count, span}

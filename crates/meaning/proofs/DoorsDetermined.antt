@@ -1,8 +1,6 @@
 -- Determinism, door by door: two results with their final buffers that a door's promise allows on the same inputs are equal. The promise of each door is
 -- the equation that is the premise here, taken twice. Assumes nothing.
-use mathlib.Core.List.{List}
-use mathlib.Core.Path.{◌≡◌, ap}
-use Prim.Native.Nat.{ℕ}
+use Rattle.std.proofs.Common.{◌≡◌, ℕ, List, ap}
 use Rattle.meaning.specs.Doors.{Created, create, check, Outcome, batch, name, Place, place_of}
 use Rattle.meaning.specs.Listing.{listed}
 use Rattle.meaning.proofs.Determined.{determined}

@@ -1,14 +1,9 @@
 -- The entries of a pool and its slots: what is found in the list of a tree's entries is the record that its tree finds. Assumes nothing.
-use mathlib.Core.Bool.{Bool, true, false, cond}
-use mathlib.Core.List.{List, [], ◌∷◌, map, reverse_aux}
-use mathlib.Core.Option.{Option, none, some}
-use mathlib.Core.Path.{◌≡◌, refl, sym, ap, ◌∙◌, subst}
-use Prim.Native.Nat.{ℕ, zero, suc, ◌≤◌, Ordering}
-use native.Mathlib.Decide.{dec_le}
-use native.Mathlib.Omega.{arith}
-use lib.Dec.{eqb}
-use lib.ListN.{length}
-use borrow.Author.Tests.{eqb-true, eq-eqb, ne_eqb}
+use Rattle.std.proofs.Common.{◌≡◌, ℕ, zero, suc, ◌≤◌, Bool, true, false, cond, eqb, List, [], ◌∷◌, map, length, sym, refl, ap, ◌∙◌, subst, arith, eq-eqb, ne_eqb, eqb-true}
+use Rattle.std.proofs.Math.Decide.{dec_le}
+use Rattle.std.proofs.Math.Option.{Option, none, some}
+use mathlib.Core.List.{reverse_aux}
+use Prim.Native.Nat.{Ordering}
 use Rattle.fields.proofs.Parts.{length_part}
 use Rattle.avl.specs.Tree.{Dir, left, right, flip, Tree, leaf, list}
 use Rattle.avl.specs.Search.{three, get}

@@ -1,15 +1,8 @@
 -- What a change of the pool does to its lists of entries: an added record is put in by its key, a removed one is left out, and the other lists
 -- stay as they were. Assumes nothing.
-use mathlib.Core.Bool.{Bool, cond}
-use mathlib.Core.List.{List, [], ◌∷◌, ◌++◌, map}
-use mathlib.Core.Option.{Option, some}
-use mathlib.Core.Path.{◌≡◌, refl, sym, ap, ap₂, ◌∙◌, subst}
-use Prim.Native.Nat.{ℕ, zero, suc, ◌+◌, ◌<◌, Ordering}
-use native.Mathlib.Omega.{arith}
-use lib.Dec.{ltb, eqb}
-use lib.ListN.{length, get_or}
-use lib.Seq.{take_all}
-use borrow.Author.Tests.{eq-eqb, ne_eqb, lt-ltb, le-ltb}
+use Rattle.std.proofs.Common.{◌≡◌, ℕ, zero, suc, ◌+◌, ◌<◌, Bool, cond, eqb, ltb, List, [], ◌∷◌, ◌++◌, map, length, get_or, sym, refl, ap, ◌∙◌, subst, ap₂, arith, take_all, le-ltb, lt-ltb, eq-eqb, ne_eqb}
+use Rattle.std.proofs.Math.Option.{Option, some}
+use Prim.Native.Nat.{Ordering}
 use Rattle.fields.specs.Part.{part}
 use Rattle.fields.proofs.Parts.{part_in, part_append_left, part_append_right}
 use Rattle.avl.specs.Tree.{left, Tree, leaf, list}

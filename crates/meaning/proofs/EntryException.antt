@@ -1,8 +1,6 @@
 -- Op 9 and the list: two pools with the same lists of entries, in which op 9 shows different records for one absent key. Assumes nothing.
-use mathlib.Core.Bool.{true, false}
-use mathlib.Core.List.{[], ◌∷◌}
-use mathlib.Core.Option.{some}
-use mathlib.Core.Path.{◌≡◌, refl}
+use Rattle.std.proofs.Common.{◌≡◌, true, false, [], ◌∷◌, refl}
+use Rattle.std.proofs.Math.Option.{some}
 use Rattle.avl.specs.Tree.{left, right, even, heavy, Tree, leaf, node}
 use Rattle.meaning.proofs.Lines
 use Rattle.meaning.specs.Meant

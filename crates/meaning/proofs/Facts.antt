@@ -1,15 +1,9 @@
 -- Tests as facts, lists counted from 1, counts, rows, and fields packed and read: what the laws of this crate share. Assumes nothing.
-use mathlib.Core.Bool.{Bool, true, false, ◌&&◌, and-eq-true_iff}
-use mathlib.Core.List.{List, [], ◌∷◌, ◌++◌, append_assoc}
-use mathlib.Core.Path.{◌≡◌, refl, sym, ap, ap₂, ◌∙◌, subst}
-use Prim.Native.Nat.{ℕ, zero, suc, ◌+◌, ◌*◌, ◌^◌, ◌≤◌, ◌<◌}
-use native.Mathlib.Decide.{dec_lt}
-use native.Mathlib.Nat.{mul-suc, mul-zero}
-use native.Mathlib.Omega.{arith}
-use lib.Dec.{eqb}
-use lib.ListN.{length, get_or, take, drop, length-append, length-set, length-take, length-drop, get_or-eq_default}
-use lib.Seq.{take-add, take_all, drop-drop, take_at, drop_at, get_or-set_same, get_or-set_other, get_or-take, get_or-drop, length-take-le}
-use borrow.Author.Tests.{eqb-true, eqb-false, eq-eqb}
+use Rattle.std.proofs.Common.{◌≡◌, ℕ, zero, suc, ◌+◌, ◌*◌, ◌^◌, ◌<◌, ◌≤◌, Bool, true, false, ◌&&◌, eqb, List, [], ◌∷◌, ◌++◌, length, get_or, take, drop, sym, refl, ap, ◌∙◌, subst, ap₂, append_assoc, mul-zero, mul-suc, arith, length-append, length-drop, length-set, length-take, length-take-le, get_or-drop, take_all, get_or-set_other, get_or-take, get_or-set_same, drop-drop, take_at, take-add, drop_at, eq-eqb, eqb-true}
+use Rattle.std.proofs.Math.Bool.{and-eq-true_iff}
+use Rattle.std.proofs.Math.Decide.{dec_lt}
+use Rattle.std.proofs.Math.ListN.{get_or-eq_default}
+use Rattle.std.proofs.lemmas.Bool.{eqb-false}
 use Rattle.fields.specs.Number.{value, digits, get_le, Bytes}
 use Rattle.fields.specs.Part.{part}
 use Rattle.fields.proofs.Numbers.{length_digits, value_digits, digits_value}

@@ -1,10 +1,6 @@
 -- The free slot that an add takes, over the slots: it is the lowest free one, and there is none exactly if all are live. Assumes nothing.
-use mathlib.Core.List.{List, [], ◌∷◌}
-use mathlib.Core.Option.{Option, none, some}
-use mathlib.Core.Path.{◌≡◌, refl}
-use Prim.Native.Nat.{ℕ, zero, suc, ◌+◌, ◌≤◌, ◌<◌}
-use native.Mathlib.Omega.{arith}
-use lib.ListN.{length, get_or}
+use Rattle.std.proofs.Common.{◌≡◌, ℕ, zero, suc, ◌+◌, ◌<◌, ◌≤◌, List, [], ◌∷◌, length, get_or, refl, arith}
+use Rattle.std.proofs.Math.Option.{Option, none, some}
 use Rattle.meaning.specs.Layout.{count, at}
 use Rattle.meaning.specs.Pool.{Rec, Pool, rec_at, is_live, live_count}
 use Rattle.meaning.specs.Change.{free_from, free_slot}

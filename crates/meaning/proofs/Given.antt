@@ -1,11 +1,6 @@
 -- A handle given for a record, and a handle whose record has gone: what each means at most, now and at the open mark. Assumes nothing.
-use mathlib.Core.Bool.{true}
-use mathlib.Core.List.{List, [], ◌∷◌, ◌++◌}
-use mathlib.Core.Logic.{◌⊎◌, inl, inr}
-use mathlib.Core.Option.{Option, none, some, some-injective}
-use mathlib.Core.Path.{◌≡◌, refl, sym, ap, ◌∙◌, subst}
-use Prim.Native.Nat.{ℕ, suc, ◌<◌}
-use native.Mathlib.Omega.{arith}
+use Rattle.std.proofs.Common.{◌≡◌, ℕ, suc, ◌<◌, true, ◌⊎◌, List, [], ◌∷◌, ◌++◌, sym, refl, ap, ◌∙◌, subst, inl, inr, arith}
+use Rattle.std.proofs.Math.Option.{Option, none, some, some-injective}
 use Rattle.fields.specs.Part.{part}
 use Rattle.fields.proofs.Parts.{part_append_left}
 use Rattle.meaning.specs.Pool.{Rec, Pool, rec_at}

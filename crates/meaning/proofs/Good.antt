@@ -1,8 +1,5 @@
 -- What can be added to a pool, and what a rollback gives back. Assumes nothing.
-use mathlib.Core.List.{List}
-use mathlib.Core.Path.{◌≡◌}
-use Prim.Native.Nat.{ℕ, ◌+◌, ◌≤◌, ◌<◌, ◌^◌}
-use lib.ListN.{length}
+use Rattle.std.proofs.Common.{◌≡◌, ℕ, ◌+◌, ◌^◌, ◌<◌, ◌≤◌, List, length}
 use Rattle.fields.specs.Number.{Bytes}
 use Rattle.meaning.specs.Pool.{Pool}
 use Rattle.meaning.specs.Change.{free_slot}

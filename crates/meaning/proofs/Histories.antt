@@ -1,12 +1,7 @@
 -- What every act on a pool keeps is kept by every command, by every row of commands and by a batch's end: one induction over the table of ops, for
 -- any property of the pool and the pool at the open mark. Assumes nothing.
-use mathlib.Core.List.{List, [], ◌∷◌}
-use mathlib.Core.Option.{Option, none, some}
-use mathlib.Core.Bool.{Bool, true, false, cond}
-use mathlib.Core.Path.{◌≡◌, refl}
-use Prim.Native.Nat.{ℕ}
-use lib.Dec.{eqb}
-use borrow.Author.Tests.{eqb-true}
+use Rattle.std.proofs.Common.{◌≡◌, ℕ, Bool, true, false, cond, eqb, List, [], ◌∷◌, refl, eqb-true}
+use Rattle.std.proofs.Math.Option.{Option, none, some}
 use Rattle.avl.specs.Order.{All, nil, more}
 use Rattle.meaning.specs.Layout.{within, span}
 use Rattle.meaning.specs.Pool.{Rec, Pool, rec_at}

@@ -1,11 +1,7 @@
 -- Marks: a journal is kept through every change, and rolled back it gives back the pool at the mark, well-formed. Assumes nothing.
-use mathlib.Core.List.{List, [], ◌∷◌, ◌++◌, append-nil, append_assoc}
-use mathlib.Core.Option.{Option, some}
-use mathlib.Core.Path.{◌≡◌, refl, sym, ap, ◌∙◌, subst}
-use Prim.Native.Nat.{ℕ, ◌≤◌, ◌<◌, ◌^◌}
-use native.Mathlib.Omega.{arith}
-use lib.ListN.{length, take}
-use lib.Seq.{take-append_seam}
+use Rattle.std.proofs.Common.{◌≡◌, ℕ, ◌^◌, ◌<◌, ◌≤◌, List, [], ◌∷◌, ◌++◌, length, take, sym, refl, ap, ◌∙◌, subst, append_assoc, append-nil, arith}
+use Rattle.std.proofs.Math.Option.{Option, some}
+use Rattle.std.proofs.Math.Seq.{take-append_seam}
 use Rattle.fields.specs.Number.{Bytes}
 use Rattle.meaning.specs.Pool.{Rec, Pool, rec_at, tree_at}
 use Rattle.meaning.specs.Change.{with_trees, with_text, with_next, free_slot, put_rec, drop_rec, new_rec, add_rec, Change, added, removed, Mark, undo, rollback, opening, noted, rolled_back}

@@ -1,11 +1,7 @@
 -- What a kept handle can reach: it is accepted only for the very record that it was given for; once that record has gone for good it is refused for
 -- ever; and a rollback brings a removed record back with its handle. Over bytes; Calls has the words. Assumes nothing.
-use mathlib.Core.Bool.{true}
-use mathlib.Core.List.{List, [], ◌∷◌, ◌++◌}
-use mathlib.Core.Option.{none, some}
-use mathlib.Core.Path.{◌≡◌, refl, sym, ap, ◌∙◌, subst}
-use Prim.Native.Nat.{ℕ, ◌≤◌, ◌<◌}
-use native.Mathlib.Omega.{arith}
+use Rattle.std.proofs.Common.{◌≡◌, ℕ, ◌<◌, ◌≤◌, true, List, [], ◌∷◌, ◌++◌, sym, refl, ap, ◌∙◌, subst, arith}
+use Rattle.std.proofs.Math.Option.{none, some}
 use Rattle.fields.specs.Number.{Bytes}
 use Rattle.fields.specs.Part.{part}
 use Rattle.meaning.specs.Pool.{Rec, rec_at, read}

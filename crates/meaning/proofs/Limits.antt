@@ -1,10 +1,5 @@
 -- The doors themselves: what each refuses and leaves unchanged, and where its limits are. Assumes nothing.
-use mathlib.Core.Bool.{Bool, true}
-use mathlib.Core.List.{List, [], ◌∷◌, ◌++◌}
-use mathlib.Core.Path.{◌≡◌, refl}
-use Prim.Native.Nat.{ℕ}
-use lib.Dec.{eqb}
-use lib.ListN.{length, take, set, replicate}
+use Rattle.std.proofs.Common.{◌≡◌, ℕ, Bool, true, eqb, List, [], ◌∷◌, ◌++◌, length, take, set, replicate, refl}
 use Rattle.meaning.specs.Layout.{all, every}
 use Rattle.meaning.specs.Doors.{create, check, batch, Outcome, name}
 use Rattle.meaning.proofs.Lines.{Line, ◌⇒◌, op, ◌in_tree◌, ◌named◌long◌, add, remove_by_key, mark, refused◌kind◌, kind◌nothing, kind◌slot◌stamp◌key◌text◌, replies, batch_of, letters, fresh, outcome, same}

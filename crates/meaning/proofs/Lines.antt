@@ -1,10 +1,6 @@
 -- Batches written line by line, each command beside the answer that it is to have: the words of the claims that compute. Assumes nothing.
-use mathlib.Core.Bool.{Bool, true, false, ◌&&◌}
-use mathlib.Core.List.{List, [], ◌∷◌, ◌++◌}
-use mathlib.Core.Option.{Option, none, some}
-use Prim.Native.Nat.{ℕ, suc, ◌+◌, ◌*◌}
-use lib.Dec.{eqb}
-use lib.ListN.{length, replicate}
+use Rattle.std.proofs.Common.{ℕ, suc, ◌+◌, ◌*◌, Bool, true, false, ◌&&◌, eqb, List, [], ◌∷◌, ◌++◌, length, replicate}
+use Rattle.std.proofs.Math.Option.{Option, none, some}
 use Rattle.fields.specs.Number.{value, digits, get_le}
 use Rattle.fields.specs.Part.{part, zeros}
 use Rattle.avl.specs.Tree.{branch, list, height, tilt}

@@ -1,12 +1,6 @@
 -- A live record's handle is accepted by the door batch: ops 4 to 6 in its tree are not refused for their tree, slot or handle. Assumes nothing.
-use mathlib.Core.Bool.{Bool, true, false, cond}
-use mathlib.Core.List.{List, [], ◌∷◌}
-use mathlib.Core.Option.{some}
-use mathlib.Core.Path.{◌≡◌, refl, sym, ◌∙◌, subst}
-use Prim.Native.Nat.{ℕ}
-use native.Mathlib.Omega.{arith}
-use lib.ListN.{length}
-use borrow.Author.Tests.{eq-eqb, le-leb}
+use Rattle.std.proofs.Common.{◌≡◌, ℕ, Bool, true, false, cond, List, [], ◌∷◌, length, sym, refl, ◌∙◌, subst, arith, eq-eqb, le-leb}
+use Rattle.std.proofs.Math.Option.{some}
 use Rattle.meaning.specs.Layout.{within}
 use Rattle.meaning.specs.Pool.{Rec, rec_at}
 use Rattle.meaning.specs.Cursor.{Command, State}

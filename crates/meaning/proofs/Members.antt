@@ -1,15 +1,9 @@
 -- What stands in a tree of a well-formed pool: live slots of its number, each once; so there are no more than the pool has slots, and the tree has
 -- no more than 14 levels. Assumes nothing.
-use mathlib.Core.Bool.{true, false≢true}
-use mathlib.Core.List.{List, [], ◌∷◌}
-use mathlib.Core.Option.{Option, none, some}
-use mathlib.Core.Path.{◌≡◌, refl, ap}
-use Prim.Native.Nat.{ℕ, zero, suc, ◌+◌, ◌≤◌, ◌<◌}
-use native.Mathlib.Decide.{dec_le}
-use native.Mathlib.Omega.{arith}
-use lib.Dec.{eqb}
-use lib.ListN.{length}
-use borrow.Author.Tests.{eqb-true, eq-eqb}
+use Rattle.std.proofs.Common.{◌≡◌, ℕ, zero, suc, ◌+◌, ◌<◌, ◌≤◌, true, eqb, List, [], ◌∷◌, length, refl, ap, arith, eq-eqb, eqb-true}
+use Rattle.std.proofs.Math.Decide.{dec_le}
+use Rattle.std.proofs.Math.Option.{Option, none, some}
+use Rattle.std.proofs.lemmas.Bool.{false≢true}
 use Rattle.avl.specs.Tree.{left, Bal, Tree, leaf, node, list, size, height}
 use Rattle.avl.specs.Order.{All, nil, more}
 use Rattle.avl.proofs.Sorting.{all_front, all_back, all_head, all_tail, all_map}

@@ -1,11 +1,8 @@
 -- Lists of slots in the order of their tree: what is first, what follows, and what a key beside a slot says of the others. Assumes nothing.
-use mathlib.Core.Bool.{Bool, true, false, cond}
-use mathlib.Core.List.{List, [], ◌∷◌, ◌++◌, append-nil, reverse, reverse-cons, reverse-append}
-use mathlib.Core.Path.{◌≡◌, refl, sym, ap, ◌∙◌, subst}
-use Prim.Native.Nat.{ℕ, ◌≤◌, Ordering}
-use native.Mathlib.Omega.{arith}
-use lib.Dec.{eqb}
-use borrow.Author.Tests.{eqb-true}
+use Rattle.std.proofs.Common.{◌≡◌, ℕ, ◌≤◌, Bool, true, false, cond, eqb, List, [], ◌∷◌, ◌++◌, reverse, sym, refl, ap, ◌∙◌, subst, append-nil, arith, eqb-true}
+use Rattle.std.proofs.lemmas.List.{reverse-append}
+use mathlib.Core.List.{reverse-cons}
+use Prim.Native.Nat.{Ordering}
 use Rattle.avl.specs.Tree.{Dir, left, right, flip, Tree, list}
 use Rattle.avl.specs.Search.{toward}
 use Rattle.avl.specs.Order.{All, nil, more, Sorted, rise, Order, From, Follows, into, first}

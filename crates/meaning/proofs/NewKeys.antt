@@ -1,12 +1,7 @@
 -- When a key is new in a tree: the search for it finds none, or it lies strictly between a record and its neighbour, or past an end of the tree.
 -- Assumes nothing.
-use mathlib.Core.Bool.{true}
-use mathlib.Core.List.{List, ◌∷◌, ◌++◌}
-use mathlib.Core.Path.{◌≡◌, refl, sym, subst}
-use Prim.Native.Nat.{ℕ, zero, suc, ◌≤◌, Ordering}
-use native.Mathlib.Omega.{arith}
-use lib.ListN.{length}
-use borrow.Author.Tests.{ltb-true}
+use Rattle.std.proofs.Common.{◌≡◌, ℕ, zero, suc, ◌≤◌, true, List, ◌∷◌, ◌++◌, length, sym, refl, subst, arith, ltb-true}
+use Prim.Native.Nat.{Ordering}
 use Rattle.avl.specs.Tree.{Dir, left, right, flip, top, list}
 use Rattle.avl.specs.Way.{before, after}
 use Rattle.avl.specs.Search.{Spot, toward, get}

@@ -1,11 +1,5 @@
 -- Sound pools and well-formed states are the same thing, and what the doors leave is sound. Assumes nothing.
-use mathlib.Core.Bool.{Bool, true, false, cond}
-use mathlib.Core.List.{List}
-use mathlib.Core.Path.{◌≡◌, refl}
-use Prim.Native.Nat.{ℕ}
-use native.Mathlib.Omega.{arith}
-use lib.Dec.{eqb}
-use borrow.Author.Tests.{leb-true}
+use Rattle.std.proofs.Common.{◌≡◌, ℕ, Bool, true, false, cond, eqb, List, refl, arith, leb-true}
 use Rattle.fields.specs.Number.{Bytes}
 use Rattle.meaning.specs.Pool.{Pool, bytes, read}
 use Rattle.meaning.specs.Sound.{sound}

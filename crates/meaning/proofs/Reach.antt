@@ -1,9 +1,7 @@
 -- What a binding of a handle means at the doors: a handle that means nothing is refused, and one that means one record at most reaches no other,
 -- from a point of a batch on and after any door calls. Assumes nothing.
-use mathlib.Core.List.{List, ◌∷◌, ◌++◌}
-use mathlib.Core.Option.{some}
-use mathlib.Core.Path.{◌≡◌, sym, ap, ◌∙◌}
-use Prim.Native.Nat.{ℕ}
+use Rattle.std.proofs.Common.{◌≡◌, ℕ, List, ◌∷◌, ◌++◌, sym, ap, ◌∙◌}
+use Rattle.std.proofs.Math.Option.{some}
 use Rattle.fields.specs.Part.{part}
 use Rattle.meaning.specs.Pool.{Rec, Pool}
 use Rattle.meaning.specs.Cursor.{Command}

@@ -1,11 +1,6 @@
 -- A well-formed pool, written, reads back as it was. Assumes nothing.
-use mathlib.Core.List.{List, []}
-use mathlib.Core.Option.{Option, none, some}
-use mathlib.Core.Path.{◌≡◌, refl, sym, ap, ◌∙◌}
-use Prim.Native.Nat.{ℕ, suc, ◌-◌, ◌≤◌}
-use native.Mathlib.Omega.{arith}
-use lib.ListN.{length, take, replicate}
-use lib.Seq.{take_at, ext_get_or}
+use Rattle.std.proofs.Common.{◌≡◌, ℕ, suc, ◌-◌, ◌≤◌, List, [], length, take, replicate, sym, refl, ap, ◌∙◌, arith, take_at, ext_get_or}
+use Rattle.std.proofs.Math.Option.{Option, none, some}
 use Rattle.fields.specs.Number.{value, get_le}
 use Rattle.fields.specs.Part.{part}
 use Rattle.avl.specs.Tree.{leaf}

@@ -1,11 +1,6 @@
 -- The numbers 10 to 24, the order in which they are tested, and the rules of "One cursor": one table of batches, one claim. Assumes nothing.
-use mathlib.Core.Bool.{Bool, true}
-use mathlib.Core.List.{List, [], ◌∷◌, ◌++◌, map}
-use mathlib.Core.Option.{Option, none, some}
-use mathlib.Core.Path.{◌≡◌, refl}
-use Prim.Native.Nat.{ℕ, suc, ◌*◌, ◌-◌}
-use lib.Dec.{eqb}
-use lib.ListN.{length, take, drop, replicate}
+use Rattle.std.proofs.Common.{◌≡◌, ℕ, suc, ◌-◌, ◌*◌, Bool, true, eqb, List, [], ◌∷◌, ◌++◌, map, length, take, drop, replicate, refl}
+use Rattle.std.proofs.Math.Option.{Option, none, some}
 use Rattle.avl.specs.Tree.{left, list}
 use Rattle.meaning.specs.Layout.{all, every, concat, span}
 use Rattle.meaning.specs.Pool.{read, tree_at, key_at}

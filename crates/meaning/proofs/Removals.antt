@@ -1,7 +1,6 @@
 -- What a command that takes a live record out leaves, by the record's slot. Assumes nothing.
-use mathlib.Core.Option.{Option, some}
-use mathlib.Core.Path.{◌≡◌, sym, ap, ap₂, ◌∙◌, subst}
-use Prim.Native.Nat.{ℕ}
+use Rattle.std.proofs.Common.{◌≡◌, ℕ, sym, ap, ◌∙◌, subst, ap₂}
+use Rattle.std.proofs.Math.Option.{Option, some}
 use Rattle.avl.specs.Search.{remove_by_key}
 use Rattle.meaning.specs.Pool.{Pool, rec_at, tree_at}
 use Rattle.meaning.specs.Change.{by_key_in, removed, drop_rec, noted}

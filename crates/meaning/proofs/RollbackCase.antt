@@ -1,14 +1,9 @@
 -- A batch to which demand 3 applies, so that its statements are not empty: a record is added, then under a mark a second one is added and the first
 -- removed, and the mark is rolled back. Assumes nothing.
-use mathlib.Core.Bool.{true}
-use mathlib.Core.List.{List, [], ◌∷◌}
-use mathlib.Core.Path.{◌≡◌, refl, sym, subst}
-use Prim.Native.Nat.{ℕ, ◌<◌}
-use native.Mathlib.Omega.{arith}
-use native.Mathlib.Decide.{dec_lt}
-use lib.Dec.{ltb}
-use lib.ListN.{length, take, get_or, replicate, get_or-eq_default}
-use borrow.Author.Tests.{eqb-false, ltb-true}
+use Rattle.std.proofs.Common.{◌≡◌, ℕ, ◌<◌, true, ltb, List, [], ◌∷◌, length, get_or, take, replicate, sym, refl, subst, arith, ltb-true}
+use Rattle.std.proofs.Math.Decide.{dec_lt}
+use Rattle.std.proofs.Math.ListN.{get_or-eq_default}
+use Rattle.std.proofs.lemmas.Bool.{eqb-false}
 use Rattle.fields.specs.Number.{Bytes}
 use Rattle.meaning.specs.Layout.{every}
 use Rattle.meaning.specs.Pool.{read}

@@ -1,10 +1,7 @@
 -- Between a mark and its close: the state leads back to the pool at the mark, and the stamps handed out in between are those of no record that a
 -- rollback gives back. Assumes nothing.
-use mathlib.Core.List.{List, [], ◌∷◌, ◌++◌, append_assoc}
-use mathlib.Core.Option.{Option, none, some}
-use mathlib.Core.Path.{◌≡◌, sym, ap, ◌∙◌, subst}
-use Prim.Native.Nat.{ℕ, suc, ◌≤◌, ◌<◌}
-use native.Mathlib.Omega.{arith}
+use Rattle.std.proofs.Common.{◌≡◌, ℕ, suc, ◌<◌, ◌≤◌, List, [], ◌∷◌, ◌++◌, sym, ap, ◌∙◌, subst, append_assoc, arith}
+use Rattle.std.proofs.Math.Option.{Option, none, some}
 use Rattle.meaning.specs.Pool.{Pool}
 use Rattle.meaning.specs.Cursor.{Command, State, tree_of}
 use Rattle.meaning.specs.Command.{refusal, perform}

@@ -1,15 +1,6 @@
 -- A sound pool, read and written again, is the same bytes: its header, its entries, its records and its text, each in turn. Assumes nothing.
-use mathlib.Core.Bool.{Bool, true}
-use mathlib.Core.List.{List, [], ◌∷◌, ◌++◌, map, append-nil}
-use mathlib.Core.Option.{none, some}
-use mathlib.Core.Path.{◌≡◌, refl, sym, ap, ap₂, ◌∙◌}
-use Prim.Native.Nat.{ℕ, zero, suc, ◌+◌, ◌*◌, ◌-◌, ◌≤◌, ◌<◌}
-use native.Mathlib.Nat.{add-zero, add-suc, suc-add}
-use native.Mathlib.Omega.{arith}
-use lib.Dec.{eqb}
-use lib.ListN.{length, get_or, take, drop, replicate, length-drop, take-append-drop}
-use lib.Seq.{drop-drop}
-use borrow.Author.Tests.{eq-eqb}
+use Rattle.std.proofs.Common.{◌≡◌, ℕ, zero, suc, ◌+◌, ◌-◌, ◌*◌, ◌<◌, ◌≤◌, Bool, true, eqb, List, [], ◌∷◌, ◌++◌, map, length, get_or, take, drop, replicate, sym, refl, ap, ◌∙◌, ap₂, append-nil, add-zero, add-suc, suc-add, arith, length-drop, take-append-drop, drop-drop, eq-eqb}
+use Rattle.std.proofs.Math.Option.{none, some}
 use Rattle.fields.specs.Number.{get_le, Bytes}
 use Rattle.fields.specs.Part.{zeros}
 use Rattle.fields.proofs.Parts.{zeros_all}

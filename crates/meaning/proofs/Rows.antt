@@ -1,12 +1,6 @@
 -- The fields of what is written for a tree and for a slot: an entry, a live record, a free one. Assumes nothing.
-use mathlib.Core.Bool.{Bool, true, false, cond}
-use mathlib.Core.List.{List, [], ◌∷◌}
-use mathlib.Core.Option.{none, some}
-use mathlib.Core.Path.{◌≡◌, refl}
-use Prim.Native.Nat.{ℕ, ◌≤◌}
-use native.Mathlib.Omega.{arith}
-use lib.Dec.{eqb}
-use lib.ListN.{length, drop, replicate}
+use Rattle.std.proofs.Common.{◌≡◌, ℕ, ◌≤◌, Bool, true, false, cond, eqb, List, [], ◌∷◌, length, drop, replicate, refl, arith}
+use Rattle.std.proofs.Math.Option.{none, some}
 use Rattle.fields.specs.Number.{digits}
 use Rattle.fields.specs.Part.{zeros}
 use Rattle.avl.specs.Tree.{left, right, Bal, even, heavy, code, Tree, leaf, node, top, list}

@@ -1,17 +1,8 @@
 -- The sections of a pool: its rows, each of its length and of bytes, and the fields of a row, read in place. Assumes nothing.
-use mathlib.Core.Bool.{true}
-use mathlib.Core.List.{List, [], ◌∷◌}
-use mathlib.Core.Path.{◌≡◌, refl, sym, ap, ◌∙◌, subst}
-use Prim.Native.Nat.{ℕ, zero, suc, ◌+◌, ◌*◌, ◌^◌, ◌≤◌, ◌<◌}
-use native.Mathlib.Nat.{mul-suc, mul-le-mul_left}
-use native.Mathlib.Omega.{arith}
-use lib.Dec.{eqb}
-use lib.ListN.{length, get_or, take, drop, length-drop}
-use lib.Seq.{drop-drop, take_all, length-take-le}
-use borrow.Author.Tests.{eqb-true}
+use Rattle.std.proofs.Common.{◌≡◌, ℕ, zero, suc, ◌+◌, ◌*◌, ◌^◌, ◌<◌, ◌≤◌, true, eqb, List, [], ◌∷◌, length, get_or, take, drop, sym, refl, ap, ◌∙◌, subst, mul-le-mul_left, mul-suc, arith, length-drop, length-take-le, take_all, drop-drop, eqb-true}
 use Rattle.fields.specs.Number.{value, get_le, Bytes}
 use Rattle.fields.specs.Part.{zeros}
-use Rattle.fields.proofs.Numbers.{value_bound, get_out, load_absent}
+use Rattle.fields.proofs.Numbers.{value_bound, get_out, power_pos}
 use Rattle.fields.proofs.Parts.{within?, part_in, part_out}
 use Rattle.fields.proofs.Spans.{get_part}
 use Rattle.meaning.specs.Layout.{pack, rows}
@@ -27,7 +18,7 @@ get_bound w b i a = within? (i + w) (length b) (λ h.
     let q = take w (drop i b) in
     let n : length q ≡ w = length-take-le w (drop i b) (rw length-drop (omega arith)) in
     rw (part_in b i w h) (subst (λ (k : ℕ). value q < 256 ^ k) n (value_bound q (bytes_take w (drop i b) (bytes_drop i b a)))))
-    (λ h. subst (λ (n : ℕ). n < 256 ^ w) (sym (get_out w b i h)) (load_absent w b i h).fits)
+    (λ h. subst (λ (n : ℕ). n < 256 ^ w) (sym (get_out w b i h)) (power_pos w))
 
 zeros_value : (w : ℕ) (bs : List ℕ) → zeros bs ≡ true → value (take w bs) ≡ 0
 unfolding zeros value

@@ -1,10 +1,7 @@
 -- The handles that answers give: a command that is done shows no record, one that is in its slot before it (shown or removed), or one that is in its
 -- slot after it (added); its answer has that record's slot and stamp. Assumes nothing.
-use mathlib.Core.Logic.{◌⊎◌, inl, inr}
-use mathlib.Core.Option.{Option, none, some}
-use mathlib.Core.Path.{◌≡◌, refl, sym, ap, ◌∙◌}
-use Prim.Native.Nat.{ℕ, ◌<◌, ◌^◌}
-use native.Mathlib.Omega.{arith}
+use Rattle.std.proofs.Common.{◌≡◌, ℕ, ◌^◌, ◌<◌, ◌⊎◌, sym, refl, ap, ◌∙◌, inl, inr, arith}
+use Rattle.std.proofs.Math.Option.{Option, none, some}
 use Rattle.fields.specs.Number.{value, digits, get_le}
 use Rattle.fields.specs.Part.{part}
 use Rattle.avl.specs.Order.{All, nil, more}

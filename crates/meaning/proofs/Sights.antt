@@ -1,12 +1,8 @@
 -- Which record an op means, and which entry of the lists: they are one. Assumes nothing.
-use mathlib.Core.Bool.{Bool, true, false, cond}
-use mathlib.Core.List.{List, [], ◌∷◌, ◌++◌, map, append_assoc, reverse, reverse-cons}
-use mathlib.Core.Option.{Option, none, some}
-use mathlib.Core.Path.{◌≡◌, refl, sym, ap, ◌∙◌, subst}
-use Prim.Native.Nat.{ℕ, zero, suc, Ordering}
-use native.Mathlib.Omega.{arith}
-use lib.Dec.{eqb}
-use borrow.Author.Tests.{eq-eqb, ne_eqb, lt-ltb, le-ltb}
+use Rattle.std.proofs.Common.{◌≡◌, ℕ, zero, suc, Bool, true, false, cond, eqb, List, [], ◌∷◌, ◌++◌, map, reverse, sym, refl, ap, ◌∙◌, subst, append_assoc, arith, le-ltb, lt-ltb, eq-eqb, ne_eqb}
+use Rattle.std.proofs.Math.Option.{Option, none, some}
+use mathlib.Core.List.{reverse-cons}
+use Prim.Native.Nat.{Ordering}
 use Rattle.avl.specs.Tree.{Dir, left, right, flip, alike, leaf, list}
 use Rattle.avl.specs.Way.{Way, root, step, plug, above, side, before, after}
 use Rattle.avl.specs.Search.{Spot, three, get, entry}

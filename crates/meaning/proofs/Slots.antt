@@ -1,10 +1,6 @@
 -- Lists of slots: counts, where a slot stands, and what the keys around a slot say of putting it in and taking it out. Assumes nothing.
-use mathlib.Core.List.{List, [], ◌∷◌, ◌++◌}
-use mathlib.Core.Path.{◌≡◌, refl, sym, ap, subst}
-use Prim.Native.Nat.{ℕ, ◌+◌, ◌≤◌, ◌<◌, Ordering}
-use native.Mathlib.Omega.{arith}
-use lib.Dec.{eqb}
-use borrow.Author.Tests.{eqb-true}
+use Rattle.std.proofs.Common.{◌≡◌, ℕ, ◌+◌, ◌<◌, ◌≤◌, eqb, List, [], ◌∷◌, ◌++◌, sym, refl, ap, subst, arith, eqb-true}
+use Prim.Native.Nat.{Ordering}
 use Rattle.avl.specs.Tree.{left, right, Tree, list}
 use Rattle.avl.specs.Search.{add, remove_by_key}
 use Rattle.avl.specs.Order.{All, nil, more, Sorted, rise, Compares, into, out, LessKey, by_key}

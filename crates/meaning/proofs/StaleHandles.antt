@@ -1,14 +1,8 @@
 -- A handle at the doors: one that no live record has is refused as stale by ops 4 to 6 and gives no name; one that is accepted is that of the live
 -- record in its slot, in its tree and with its name. Assumes nothing.
-use mathlib.Core.Bool.{Bool, true, false, not, cond}
-use mathlib.Core.List.{List, []}
-use mathlib.Core.Option.{Option, none, some}
-use mathlib.Core.Path.{◌≡◌, refl, sym, ap, ◌∙◌, subst}
-use Prim.Native.Nat.{ℕ}
-use native.Mathlib.Omega.{arith}
-use lib.Dec.{eqb}
-use lib.ListN.{length, take, drop, take-append-drop}
-use borrow.Author.Tests.{eqb-true, eqb-false, eq-eqb, ne_eqb, le-leb}
+use Rattle.std.proofs.Common.{◌≡◌, ℕ, Bool, true, false, cond, not, eqb, List, [], length, take, drop, sym, refl, ap, ◌∙◌, subst, arith, take-append-drop, eq-eqb, ne_eqb, eqb-true, le-leb}
+use Rattle.std.proofs.Math.Option.{Option, none, some}
+use Rattle.std.proofs.lemmas.Bool.{eqb-false}
 use Rattle.fields.specs.Number.{Bytes}
 use Rattle.fields.specs.Part.{part}
 use Rattle.fields.proofs.Parts.{part_append_left}

@@ -1,12 +1,5 @@
 -- Trees stored in rows: the rows of a well-formed pool store its trees, and a stored tree is read back and its links hold. Assumes nothing.
-use mathlib.Core.Bool.{true}
-use mathlib.Core.List.{List, [], ◌∷◌}
-use mathlib.Core.Path.{◌≡◌, refl, sym, ap, ◌∙◌}
-use Prim.Native.Nat.{ℕ, zero, suc, ◌+◌, ◌≤◌}
-use native.Mathlib.Omega.{arith}
-use lib.Dec.{leb, eqb}
-use lib.ListN.{length}
-use borrow.Author.Tests.{eq-eqb, le-leb}
+use Rattle.std.proofs.Common.{◌≡◌, ℕ, zero, suc, ◌+◌, ◌≤◌, true, eqb, leb, List, [], ◌∷◌, length, sym, refl, ap, ◌∙◌, arith, eq-eqb, le-leb}
 use Rattle.avl.specs.Tree.{left, right, Bal, even, heavy, code, Tree, leaf, node, top, list, height}
 use Rattle.avl.specs.Order.{All}
 use Rattle.meaning.specs.Layout.{bit, count, at}

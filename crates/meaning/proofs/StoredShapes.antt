@@ -1,12 +1,8 @@
 -- From a command of a batch to the bytes: the links and balances that the records of the final pool store are those of the tree that the Rust's edit gives.
 -- Assumes nothing.
-use mathlib.Core.Bool.{true}
-use mathlib.Core.List.{List, [], ◌∷◌, ◌++◌, append-nil}
-use mathlib.Core.Option.{Option}
-use mathlib.Core.Path.{◌≡◌, sym, ap, ◌∙◌, subst}
-use Prim.Native.Nat.{ℕ, ◌≤◌}
-use native.Mathlib.Omega.{arith}
-use lib.ListN.{length, length-map}
+use Rattle.std.proofs.Common.{◌≡◌, ℕ, ◌≤◌, true, List, [], ◌∷◌, ◌++◌, length, sym, ap, ◌∙◌, subst, append-nil, arith}
+use Rattle.std.proofs.Math.Option.{Option}
+use Rattle.std.proofs.lemmas.List.{length-map}
 use Rattle.fields.specs.Number.{Bytes}
 use Rattle.avl.specs.Tree.{Dir, left, leaf, list}
 use Rattle.avl.specs.Way.{Way}

@@ -1,13 +1,6 @@
 -- The two tables of commands: a command that is not refused has passed every test of its op, and what holds at every number of a list of ops holds
 -- at the command's. Assumes nothing.
-use mathlib.Core.Bool.{Bool, true, false, not, ◌&&◌, cond}
-use mathlib.Core.List.{List, [], ◌∷◌}
-use mathlib.Core.Path.{◌≡◌, refl, ap}
-use Prim.Native.Nat.{ℕ, zero, suc, ◌≤◌}
-use native.Mathlib.Omega.{arith}
-use lib.Dec.{leb, eqb}
-use lib.ListN.{get_or}
-use borrow.Author.Tests.{leb-true}
+use Rattle.std.proofs.Common.{◌≡◌, ℕ, zero, suc, ◌≤◌, Bool, true, false, cond, not, ◌&&◌, eqb, leb, List, [], ◌∷◌, get_or, refl, ap, arith, leb-true}
 use Rattle.avl.specs.Tree.{left, right}
 use Rattle.avl.specs.Order.{All}
 use Rattle.meaning.specs.Layout.{bit, within, every, count, span}

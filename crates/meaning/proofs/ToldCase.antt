@@ -1,10 +1,7 @@
 -- A batch to which the statements over the answers' bytes apply, so that they are not empty: under a mark a record is added, the mark is rolled back, and
 -- then the record is to be removed by its handle. Assumes nothing.
-use mathlib.Core.List.{List, [], ◌∷◌}
-use mathlib.Core.Path.{◌≡◌, refl}
-use Prim.Native.Nat.{ℕ}
-use lib.ListN.{replicate}
-use borrow.Author.Tests.{eqb-false}
+use Rattle.std.proofs.Common.{◌≡◌, ℕ, List, [], ◌∷◌, replicate, refl}
+use Rattle.std.proofs.lemmas.Bool.{eqb-false}
 use Rattle.meaning.specs.Cursor.{Command}
 use Rattle.meaning.specs.Doors.{batch}
 use Rattle.meaning.specs.Calls.{Calls, none_more, one_more, shown_slot, shown_stamp}

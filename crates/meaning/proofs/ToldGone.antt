@@ -1,12 +1,7 @@
 -- Handles that have gone, over the bytes of the answers: a record removed, removed under a mark that is committed, added and removed under a mark, or
 -- reset. What the answers said before tells what every later answer says. Assumes nothing.
-use mathlib.Core.List.{List, [], ◌∷◌, ◌++◌, append_assoc}
-use mathlib.Core.Logic.{◌⊎◌, inl, inr}
-use mathlib.Core.Option.{some}
-use mathlib.Core.Path.{◌≡◌, refl, sym, ap, ◌∙◌, subst}
-use Prim.Native.Nat.{ℕ, suc, ◌≤◌, ◌<◌}
-use native.Mathlib.Omega.{arith}
-use lib.ListN.{length}
+use Rattle.std.proofs.Common.{◌≡◌, ℕ, suc, ◌<◌, ◌≤◌, ◌⊎◌, List, [], ◌∷◌, ◌++◌, length, sym, refl, ap, ◌∙◌, subst, inl, inr, append_assoc, arith}
+use Rattle.std.proofs.Math.Option.{some}
 use Rattle.meaning.specs.Pool.{rec_at, read}
 use Rattle.meaning.specs.Cursor.{Command, State}
 use Rattle.meaning.specs.Command.{meant, perform}

@@ -1,10 +1,7 @@
 -- Demand 3 over the bytes of the answers: what is told of a handle that has gone, from what was told before. Calls and Told have the words.
 -- Assumes nothing.
-use mathlib.Core.List.{List, [], ◌∷◌, ◌++◌, append_assoc}
-use mathlib.Core.Path.{◌≡◌, sym, ap, ◌∙◌}
-use Prim.Native.Nat.{ℕ}
+use Rattle.std.proofs.Common.{◌≡◌, ℕ, List, [], ◌∷◌, ◌++◌, length, sym, ap, ◌∙◌, append_assoc}
 use Rattle.meaning.specs.Cursor.{Command}
-use lib.ListN.{length}
 use Rattle.meaning.specs.Pool.{read}
 use Rattle.meaning.specs.Doors.{commands, run, begun, batch}
 use Rattle.meaning.specs.Calls.{Calls, Point, state_after, Marked, SameContents, AddedBetween, RefusedOn, RefusedFrom, shown_slot, shown_stamp}

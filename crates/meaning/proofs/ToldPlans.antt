@@ -1,9 +1,6 @@
 -- An abandoned plan at the door name: every handle has the name that it had, or none if it had none. Assumes nothing.
-use mathlib.Core.List.{List, [], ◌∷◌}
-use mathlib.Core.Option.{some}
-use mathlib.Core.Path.{◌≡◌, refl, sym, ap, ◌∙◌}
-use Prim.Native.Nat.{ℕ}
-use native.Mathlib.Omega.{arith}
+use Rattle.std.proofs.Common.{◌≡◌, ℕ, List, [], ◌∷◌, sym, refl, ap, ◌∙◌, arith}
+use Rattle.std.proofs.Math.Option.{some}
 use Rattle.fields.specs.Part.{part}
 use Rattle.meaning.specs.Pool.{rec_at, read}
 use Rattle.meaning.specs.Cursor.{Command}

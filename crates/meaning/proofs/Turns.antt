@@ -1,14 +1,7 @@
 -- A row of commands, one after the other: where each begins, what it answers and where its answer stands. Assumes nothing.
-use mathlib.Core.Bool.{Bool, true, false, cond}
-use mathlib.Core.List.{List, [], ◌∷◌, ◌++◌, append_assoc}
-use mathlib.Core.Option.{Option, none, some}
-use mathlib.Core.Path.{◌≡◌, refl, sym, ap, ◌∙◌}
-use Prim.Native.Nat.{ℕ, ◌+◌, ◌*◌}
-use native.Mathlib.Omega.{arith}
-use native.Mathlib.Nat.{mul-suc}
-use lib.Dec.{eqb}
-use lib.ListN.{length, length-append, length-map}
-use lib.Seq.{take_all}
+use Rattle.std.proofs.Common.{◌≡◌, ℕ, ◌+◌, ◌*◌, Bool, true, false, cond, eqb, List, [], ◌∷◌, ◌++◌, length, sym, refl, ap, ◌∙◌, append_assoc, mul-suc, arith, length-append, take_all}
+use Rattle.std.proofs.Math.Option.{Option, none, some}
+use Rattle.std.proofs.lemmas.List.{length-map}
 use Rattle.fields.specs.Part.{part}
 use Rattle.fields.proofs.Parts.{part_in, part_append_left, part_append_right}
 use Rattle.meaning.specs.Layout.{rows}

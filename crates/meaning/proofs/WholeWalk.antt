@@ -1,9 +1,6 @@
 -- Keys rise over the whole walk: the smallest pools that a comparison of each child with its parent would pass, and that are not sound. In each
 -- pair the two pools differ in one key. Assumes nothing.
-use mathlib.Core.Bool.{true, false}
-use mathlib.Core.List.{List, [], ◌∷◌}
-use mathlib.Core.Path.{◌≡◌, refl}
-use Prim.Native.Nat.{ℕ, ◌+◌, ◌*◌}
+use Rattle.std.proofs.Common.{◌≡◌, ℕ, ◌+◌, ◌*◌, true, false, List, [], ◌∷◌, refl}
 use Rattle.meaning.specs.Layout.{pack, concat}
 use Rattle.meaning.specs.Sound.{sound}
 use Rattle.meaning.proofs.Cases

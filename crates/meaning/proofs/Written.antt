@@ -1,14 +1,7 @@
 -- A well-formed pool, written, is sound. Assumes nothing.
-use mathlib.Core.Bool.{Bool, true, false, not, beq}
-use mathlib.Core.List.{List, [], ◌∷◌, ◌++◌, map}
-use mathlib.Core.Path.{◌≡◌, refl, sym, ap, ◌∙◌}
-use Prim.Native.Nat.{ℕ, suc, ◌+◌, ◌*◌, ◌-◌, ◌≤◌, ◌<◌}
-use native.Mathlib.Nat.{add-zero, add-suc, suc-add}
-use native.Mathlib.Omega.{arith}
-use lib.Dec.{leb, eqb}
-use lib.ListN.{length, get_or, replicate, length-append, length-map}
-use lib.Seq.{drop_at}
-use borrow.Author.Tests.{eq-eqb, ne_eqb, le-leb, lt-ltb}
+use Rattle.std.proofs.Common.{◌≡◌, ℕ, suc, ◌+◌, ◌-◌, ◌*◌, ◌<◌, ◌≤◌, Bool, true, false, not, eqb, leb, List, [], ◌∷◌, ◌++◌, map, length, get_or, replicate, sym, refl, ap, ◌∙◌, add-zero, add-suc, suc-add, arith, length-append, drop_at, lt-ltb, eq-eqb, ne_eqb, le-leb}
+use Rattle.std.proofs.Math.Bool.{beq}
+use Rattle.std.proofs.lemmas.List.{length-map}
 use Rattle.fields.specs.Number.{value, get_le}
 use Rattle.fields.specs.Part.{part, zeros}
 use Rattle.fields.proofs.Parts.{zeros_replicate}

@@ -1,8 +1,8 @@
 -- What changes a pool: a record in or out of a slot and its tree, a name at the end of the text, reset, and a mark with what it undoes.
 -- Assumes nothing.
-use Rattle.std.specs.Prelude.{List, [], ◌∷◌, ◌++◌, map, length, take}
+use Rattle.std.specs.Prelude.{ℕ, suc, List, [], ◌∷◌, ◌++◌, map, length, take}
 use Rattle.std.proofs.Math.Option.{Option, none, some}
-use Prim.Native.Nat.{ℕ, suc, Ordering}
+use Prim.Native.Nat.{Ordering}
 use Rattle.avl.specs.Tree.{Tree, leaf}
 use Rattle.avl.specs.Search.{add, remove_by_key}
 use Rattle.avl.specs.Order.{by_key}

@@ -1,2 +1,3 @@
 pub mod Naming
 pub mod NameSteps
+pub mod OneToOne

@@ -1,12 +1,6 @@
 -- The answers of the name door, of its place and of its tests, each from what was read and found on the way to it. Assumes nothing.
-use mathlib.Core.Bool.{Bool, true, false, not, ◌&&◌, and_assoc}
-use mathlib.Core.List.{List, []}
-use mathlib.Core.Path.{◌≡◌, refl, sym, ap, ap₂, ◌∙◌, subst}
-use Prim.Native.Nat.{ℕ, zero, suc, ◌+◌, ◌*◌, ◌-◌, ◌≤◌}
-use native.Mathlib.Omega.{arith}
-use lib.Dec.{eqb, leb}
-use lib.ListN.{length, take, drop}
-use lib.Seq.{drop-drop}
+use Rattle.std.proofs.Common.{◌≡◌, ℕ, zero, suc, ◌+◌, ◌-◌, ◌*◌, ◌≤◌, Bool, true, false, not, ◌&&◌, eqb, leb, List, [], length, take, drop, sym, refl, ap, ◌∙◌, subst, ap₂, arith, drop-drop}
+use Rattle.std.proofs.Math.Bool.{and_assoc}
 use Rattle.fields.specs.Number.{get_le}
 use Rattle.meaning.specs.Layout.{within, at}
 use Rattle.meaning.specs.Pool.{n_slots, n_trees, records, tree_in, stamp_in, start_in, len_in}
@@ -20,10 +14,9 @@ use Rattle.name.proofs.Naming.{place_is, place_fits, place_low, name_at}
 
 -- ---- a record against a handle
 
-pub match_row : (t g : ℕ) (r : List ℕ) {a s : ℕ} {rest whole : Bool} → a ≡ get_le 1 r 15 → s ≡ get_le 4 r 16 → rest ≡ (eqb s g && eqb a t)
-    → whole ≡ (not (eqb a 0) && rest) → whole ≡ matches t g r
+pub match_row : (t g : ℕ) (r : List ℕ) {a s : ℕ} → a ≡ get_le 1 r 15 → s ≡ get_le 4 r 16 → ((not (eqb a 0) && eqb s g) && eqb a t) ≡ matches t g r
 unfolding matches tree_in stamp_in
-match_row t g r e f h k = (cc)
+match_row t g r e f = simp (e, f, and_assoc) refl
 
 -- ---- a handle against the pool
 
@@ -37,8 +30,11 @@ row_part b (suc i) lo hi =
     rows_at (n_slots b) 32 (drop s b) i (omega arith)
     ∙ ap (take 32) (drop-drop (32 * i) s b ∙ ap (λ (j : ℕ). drop (s + 32 * j) b) k)
 
-module _ (b : List ℕ) (t x g : ℕ) {n m : ℕ} (ne : n ≡ get_le 2 b 4) (me : m ≡ get_le 2 b 2) {p q v : Bool} (pe : p ≡ (leb 1 t && leb t n))
-    (qe : q ≡ (leb 1 x && leb x m)) (ve : v ≡ (p && q)) where
+module _ (b : List ℕ) (t x g : ℕ) {n m : ℕ} (ne : n ≡ get_le 2 b 4) (me : m ≡ get_le 2 b 2) where
+  -- the tests of tree and slot
+  abbrev v : Bool
+  v = ((leb 1 t && leb t n) && leb 1 x) && leb x m
+
   trees_are : n ≡ n_trees b
   unfolding n_trees
   trees_are = ne
@@ -46,7 +42,7 @@ module _ (b : List ℕ) (t x g : ℕ) {n m : ℕ} (ne : n ≡ get_le 2 b 4) (me 
   -- the handle's tree and slot are the pool's
   named : v ≡ (within 1 (n_trees b) t && within 1 (n_slots b) x)
   unfolding within n_trees n_slots
-  named = (cc)
+  named = simp (ne, me, and_assoc) refl
 
   handle_is : handle_ok b t x g ≡ (v && matches t g (at [] (records b) x))
   unfolding handle_ok

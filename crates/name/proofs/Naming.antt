@@ -1,14 +1,7 @@
 -- When op 4 would take a handle, field by field, and where its name stands: the name is the part of the pool there. Assumes nothing.
-use mathlib.Core.Bool.{Bool, true, false, false≢true, not, cond}
-use mathlib.Core.List.{List, []}
-use mathlib.Core.Option.{Option}
-use mathlib.Core.Path.{◌≡◌, refl, sym, ◌∙◌, ap}
-use Prim.Native.Nat.{ℕ, ◌+◌, ◌*◌, ◌≤◌}
-use native.Mathlib.Omega.{arith}
-use lib.Dec.{eqb}
-use lib.ListN.{length, take, drop, length-drop}
-use lib.Seq.{drop-drop}
-use borrow.Author.Tests.{eqb-false}
+use Rattle.std.proofs.Common.{◌≡◌, ℕ, ◌+◌, ◌*◌, ◌≤◌, Bool, true, false, cond, not, eqb, List, [], length, take, drop, sym, refl, ap, ◌∙◌, arith, length-drop, drop-drop}
+use Rattle.std.proofs.Math.Option.{Option}
+use Rattle.std.proofs.lemmas.Bool.{false≢true, eqb-false}
 use Rattle.meaning.specs.Layout.{within, at}
 use Rattle.meaning.specs.Layout
 use Rattle.fields.specs.Part.{part}

@@ -1,14 +1,8 @@
 -- The ops that add a record, row by row of the tables of `meaning`: the tests that each makes, its tree, and the cursor after it. On the body they
 -- make the same tests; so each agrees with its row if its place is where the search for its key ends. Assumes nothing.
-use mathlib.Core.Bool.{Bool, true, false, not, cond}
-use mathlib.Core.List.{List}
-use mathlib.Core.Option.{Option}
-use mathlib.Core.Path.{◌≡◌, refl, sym, ap, ap₂, ◌∙◌}
-use Prim.Native.Nat.{ℕ, ◌+◌, ◌≤◌}
-use native.Mathlib.Omega.{arith}
-use lib.Dec.{eqb, ltb}
-use lib.ListN.{length}
-use borrow.Author.Tests.{not-false}
+use Rattle.std.proofs.Common.{◌≡◌, ℕ, ◌+◌, ◌≤◌, Bool, true, false, cond, not, eqb, ltb, List, length, sym, refl, ap, ◌∙◌, ap₂, arith}
+use Rattle.std.proofs.Math.Option.{Option}
+use Rattle.std.proofs.lemmas.Bool.{not-false}
 use Rattle.avl.specs.Tree.{Dir, left, right}
 use Rattle.meaning.specs.Layout.{within}
 use Rattle.meaning.specs.Pool.{Pool}

@@ -1,13 +1,7 @@
 -- How an op that adds a record ends: what is done on the body and the state is what `meaning` says. Assumes nothing.
-use mathlib.Core.Bool.{true}
-use mathlib.Core.List.{List}
-use mathlib.Core.Option.{Option, none, some}
-use mathlib.Core.Path.{◌≡◌, refl, sym, ap, ap₂, ◌∙◌, subst, subst₂}
-use Prim.Native.Nat.{ℕ, zero, suc, ◌+◌}
-use native.Mathlib.Omega.{arith}
-use lib.Dec.{leb}
-use lib.ListN.{length}
-use borrow.Author.Tests.{leb-true, not-false}
+use Rattle.std.proofs.Common.{◌≡◌, ℕ, zero, suc, ◌+◌, true, leb, List, length, sym, refl, ap, ◌∙◌, subst, ap₂, subst₂, arith, leb-true}
+use Rattle.std.proofs.Math.Option.{Option, none, some}
+use Rattle.std.proofs.lemmas.Bool.{not-false}
 use Rattle.fields.specs.Part.{part}
 use Rattle.fields.proofs.Parts.{length_part}
 use Rattle.avl.specs.Tree.{Dir}

@@ -1,9 +1,6 @@
 -- When what a command has done on the body and the state is what `meaning` says of it. Assumes nothing.
-use mathlib.Core.Bool.{false}
-use mathlib.Core.List.{[]}
-use mathlib.Core.Option.{Option, none, some}
-use mathlib.Core.Path.{◌≡◌}
-use lib.Dec.{eqb}
+use Rattle.std.proofs.Common.{◌≡◌, false, eqb, []}
+use Rattle.std.proofs.Math.Option.{Option, none, some}
 use Rattle.meaning.specs.Pool.{Rec}
 use Rattle.meaning.specs.Change.{Mark, added, removed, noted}
 use Rattle.meaning.specs.Cursor.{State, kind}

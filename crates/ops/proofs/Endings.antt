@@ -1,13 +1,8 @@
 -- The ways in which a command ends, on the body and the state, are those of `meaning`: it is refused, or it shows a record, or it takes one out.
 -- Assumes nothing.
-use mathlib.Core.Bool.{Bool, cond}
-use mathlib.Core.Option.{Option, none, some}
-use mathlib.Core.Path.{◌≡◌, refl, sym, ap, ◌∙◌, subst}
-use Prim.Native.Nat.{ℕ, ◌≤◌}
-use native.Mathlib.Omega.{arith}
-use lib.Dec.{eqb}
-use lib.ListN.{length}
-use borrow.Author.Tests.{eqb-true, eqb-false, ne_eqb}
+use Rattle.std.proofs.Common.{◌≡◌, ℕ, ◌≤◌, Bool, cond, eqb, length, sym, refl, ap, ◌∙◌, subst, arith, ne_eqb, eqb-true}
+use Rattle.std.proofs.Math.Option.{Option, none, some}
+use Rattle.std.proofs.lemmas.Bool.{eqb-false}
 use Rattle.meaning.specs.Pool.{Rec, Pool, rec_at, is_live}
 use Rattle.meaning.specs.Change.{Change, removed, drop_rec, Mark, noted}
 use Rattle.meaning.specs.Cursor.{Command, Cursor, State, kind, Meant, Then}
@@ -27,7 +22,7 @@ use Rattle.cursor.specs.Cursor.{after_n}
 use Rattle.cursor.specs.Work.{placed, Did, sight_of}
 use Rattle.cursor.specs.declared.command.Command.{Command as CodeCommand}
 use Rattle.cursor.specs.declared.cursor.Next.{Next}
-use Rattle.cursor.specs.declared.state.Mark.{Mark as CodeMark}
+use Rattle.cursor.specs.Given.{Mark as CodeMark}
 use Rattle.ops.specs.Ending.{look_n, take_out_n}
 use Rattle.ops.specs.Perform.{Out}
 use Rattle.ops.specs.Image.{mark_of, work_in}

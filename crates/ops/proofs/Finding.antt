@@ -1,12 +1,7 @@
 -- The records that a command looks for on the body are those that `meaning` says it means: by key, at an end, by handle, beside the cursor.
 -- Assumes nothing.
-use mathlib.Core.Bool.{Bool, true, cond}
-use mathlib.Core.List.{List, [], ◌∷◌}
-use mathlib.Core.Path.{◌≡◌, refl, sym, ap, ◌∙◌}
-use Prim.Native.Nat.{ℕ, ◌≤◌}
-use lib.Dec.{eqb}
-use lib.ListN.{length}
-use borrow.Author.Tests.{eqb-true, eqb-false, ne_eqb}
+use Rattle.std.proofs.Common.{◌≡◌, ℕ, ◌≤◌, Bool, true, cond, eqb, List, [], ◌∷◌, length, sym, refl, ap, ◌∙◌, ne_eqb, eqb-true}
+use Rattle.std.proofs.lemmas.Bool.{eqb-false}
 use Rattle.avl.specs.Tree.{Dir, left, right, flip, alike, Tree, leaf, node, top, list}
 use Rattle.avl.specs.Way.{Way}
 use Rattle.avl.specs.Search.{Spot, entry, compared}

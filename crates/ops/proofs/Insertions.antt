@@ -1,13 +1,8 @@
 -- The ops that add a record do on the body and the state what `meaning` says: `add`, the inserts beside the cursor's record, `insert_node`,
 -- append and prepend. Assumes nothing.
-use mathlib.Core.Bool.{Bool, true, false, not, cond}
-use mathlib.Core.List.{List}
-use mathlib.Core.Option.{Option}
-use mathlib.Core.Path.{◌≡◌, refl, sym, ap, ◌∙◌, subst}
-use Prim.Native.Nat.{ℕ}
-use native.Mathlib.Omega.{arith}
-use lib.Dec.{eqb}
-use borrow.Author.Tests.{eqb-true, eqb-false, not-false}
+use Rattle.std.proofs.Common.{◌≡◌, ℕ, Bool, true, false, cond, not, eqb, List, sym, refl, ap, ◌∙◌, subst, arith, eqb-true}
+use Rattle.std.proofs.Math.Option.{Option}
+use Rattle.std.proofs.lemmas.Bool.{eqb-false, not-false}
 use Rattle.avl.specs.Tree.{Dir, left, right, flip, pick, Tree}
 use Rattle.avl.specs.Way.{above, side}
 use Rattle.avl.specs.Search.{Spot, get, seek, entry, compared}

@@ -1,8 +1,4 @@
-pub mod EndingSteps
-pub mod LookSteps
-pub mod AddSteps
-pub mod MarkSteps
-pub mod PerformSteps
+pub mod OpNumbers
 pub mod Rows
 pub mod Table
 pub mod Agreeing
@@ -21,3 +17,4 @@ pub mod Insertions
 pub mod Markings
 pub mod Unknown
 pub mod Performing
+pub mod OneToOne

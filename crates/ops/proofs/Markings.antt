@@ -1,12 +1,7 @@
 -- The ops on marks and the reset, 26 to 29: done or refused on the body and the state as `meaning` says. A rollback that is done only asks for the
 -- journal to be undone. Assumes nothing.
-use mathlib.Core.Bool.{Bool, true, false, not, cond}
-use mathlib.Core.List.{List}
-use mathlib.Core.Option.{Option, none, some}
-use mathlib.Core.Path.{◌≡◌, refl, sym, ap, ◌∙◌}
-use Prim.Native.Nat.{ℕ}
-use native.Mathlib.Omega.{arith}
-use lib.Dec.{eqb}
+use Rattle.std.proofs.Common.{◌≡◌, ℕ, Bool, true, false, cond, not, eqb, List, sym, refl, ap, ◌∙◌, arith}
+use Rattle.std.proofs.Math.Option.{Option, none, some}
 use Rattle.meaning.specs.Layout.{within}
 use Rattle.meaning.specs.Pool.{Pool}
 use Rattle.meaning.specs.Change.{Mark, rollback, rolled_back, opening, emptied}
@@ -20,7 +15,7 @@ use Rattle.cursor.specs.Work.{placed, begun_n}
 use Rattle.ops.specs.Ops.{settled_n, mark_n, rollback_n, commit_n, reset_n}
 use Rattle.ops.specs.Perform.{Out, settled_of}
 use Rattle.ops.specs.Image.{mark_of, work_in, meant_by}
-use Rattle.ops.specs.declared.mark.Settled.{Settled}
+use Rattle.ops.specs.Given.{Settled}
 use Rattle.cursor.specs.declared.command.Command.{Command as CodeCommand}
 use Rattle.ops.proofs.Agreeing.{Marks, shut, opens, Agrees}
 use Rattle.ops.proofs.Endings.{refused_agrees}

@@ -1,13 +1,6 @@
 -- The record that a command means, by what its op goes by: the key, an end of the tree, the handle, the cursor. Where the tests before it have
 -- passed, the one that is found on the body is that of `meaning`. Assumes nothing.
-use mathlib.Core.Bool.{Bool, true, false, cond}
-use mathlib.Core.List.{List}
-use mathlib.Core.Path.{◌≡◌, refl, sym, ap, ◌∙◌, subst}
-use Prim.Native.Nat.{ℕ, ◌≤◌, ◌<◌, ◌^◌}
-use native.Mathlib.Omega.{arith}
-use lib.Dec.{eqb}
-use lib.ListN.{length}
-use borrow.Author.Tests.{ne_eqb}
+use Rattle.std.proofs.Common.{◌≡◌, ℕ, ◌^◌, ◌<◌, ◌≤◌, Bool, true, false, cond, eqb, List, length, sym, refl, ap, ◌∙◌, subst, arith, ne_eqb}
 use Rattle.avl.specs.Tree.{Dir, left, right, Tree, leaf, node, top}
 use Rattle.tree.specs.Node.{way}
 use Rattle.avl.specs.Way.{Way, above, side}
@@ -101,7 +94,7 @@ record Ended (p : Pool) (c : CodeCommand) (u : Tree) (q : Way) : Type 0 where
   lives : (or_nearest u q ≡ 0 → ⊥) → Lives p c.tree (or_nearest u q)
 
 -- the code's side is the side
-code_side : (d : Dir) → way (code_dir d).0 ≡ d
+code_side : (d : Dir) → way (code_dir d) ≡ d
 code_side left = refl
 code_side right = refl
 

@@ -1,9 +1,5 @@
 -- What comes of the cursor where a command is done, and where it is refused; and the command on the tree that it works on. Assumes nothing.
-use mathlib.Core.Bool.{Bool, true, false, cond}
-use mathlib.Core.Path.{◌≡◌, refl, ap, ◌∙◌}
-use Prim.Native.Nat.{ℕ}
-use lib.Dec.{eqb, ltb}
-use borrow.Author.Tests.{eq-eqb, ne_eqb}
+use Rattle.std.proofs.Common.{◌≡◌, ℕ, Bool, true, false, cond, eqb, ltb, refl, ap, ◌∙◌, eq-eqb, ne_eqb}
 use Rattle.meaning.specs.Cursor.{Cursor, nowhere}
 use Rattle.cursor.specs.Cursor.{after_n}
 use Rattle.cursor.specs.Tests.{aimed_n}

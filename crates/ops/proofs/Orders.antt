@@ -1,12 +1,7 @@
 -- The tests of order on the body are those of `meaning`; and at an end of a tree nothing lies beyond. Assumes nothing.
-use mathlib.Core.Bool.{Bool, true, not, ◌&&◌, cond}
-use mathlib.Core.List.{List, [], ◌∷◌}
-use mathlib.Core.Path.{◌≡◌, refl, sym, ap, ap₂, ◌∙◌}
-use Prim.Native.Nat.{ℕ, zero, suc, ◌≤◌}
-use native.Mathlib.Omega.{arith}
-use lib.Dec.{eqb, ltb, eqb-suc-zero}
-use lib.ListN.{length}
-use borrow.Author.Tests.{eqb-true, eqb-false}
+use Rattle.std.proofs.Common.{◌≡◌, ℕ, zero, suc, ◌≤◌, Bool, true, cond, not, ◌&&◌, eqb, ltb, List, [], ◌∷◌, length, sym, refl, ap, ◌∙◌, ap₂, arith, eqb-true}
+use Rattle.std.proofs.Math.Dec.{eqb-suc-zero}
+use Rattle.std.proofs.lemmas.Bool.{eqb-false}
 use Rattle.avl.specs.Tree.{Dir, left, right, flip, pick, Tree, leaf, node, list, size}
 use Rattle.avl.specs.Order.{All, nil, more, Sorted, rise, From, first, LessKey}
 use Rattle.avl.proofs.Height.{size_list}

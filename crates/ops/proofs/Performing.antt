@@ -1,14 +1,8 @@
 -- One command: what it does on the body and the state of a good state is what `meaning` says, for every op but a rollback, which asks for the journal
 -- (crate `batch`). Assumes nothing.
-use mathlib.Core.Bool.{true, false}
-use mathlib.Core.Logic.{inl, inr}
-use mathlib.Core.Option.{Option}
-use mathlib.Core.List.{List}
-use mathlib.Core.Path.{◌≡◌, refl, sym, subst}
-use Prim.Native.Nat.{ℕ, ◌<◌, ◌≤◌}
-use native.Mathlib.Omega.{arith}
-use lib.Dec.{eqb, ltb}
-use borrow.Author.Tests.{eqb-true, eqb-false, ne_eqb, ltb-true, ltb-false}
+use Rattle.std.proofs.Common.{◌≡◌, ℕ, ◌<◌, ◌≤◌, true, false, eqb, ltb, List, sym, refl, subst, inl, inr, arith, ltb-false, ltb-true, ne_eqb, eqb-true}
+use Rattle.std.proofs.Math.Option.{Option}
+use Rattle.std.proofs.lemmas.Bool.{eqb-false}
 use Rattle.avl.specs.Order.{All, nil, more}
 use Rattle.avl.specs.Tree.{left, right}
 use Rattle.meaning.specs.Layout.{span, within}

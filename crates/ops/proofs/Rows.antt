@@ -1,9 +1,5 @@
 -- What the two tables of `meaning` say of a command by its op's number, and chains of tests compared test by test. Assumes nothing.
-use mathlib.Core.Bool.{Bool, true, false, cond}
-use mathlib.Core.Path.{◌≡◌, refl, sym, ap, ◌∙◌}
-use Prim.Native.Nat.{ℕ, ◌≤◌}
-use native.Mathlib.Omega.{arith}
-use lib.Dec.{eqb}
+use Rattle.std.proofs.Common.{◌≡◌, ℕ, ◌≤◌, Bool, true, false, cond, eqb, sym, refl, ap, ◌∙◌, arith}
 use Rattle.meaning.specs.Layout.{within}
 use Rattle.meaning.specs.Cursor.{Command, Cursor, nowhere, State, cursor_tree, tree_of, Meant, Then}
 use Rattle.meaning.specs.Command.{Act, Op, op◌means◌does◌then◌, ops, op_in, op_of, meant, none_there, refusals, first_of, refusal, after_refusal}

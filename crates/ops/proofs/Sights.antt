@@ -1,10 +1,6 @@
 -- The ops that show a record do on the body and the state what `meaning` says: one law for each kind, then each op. Assumes nothing.
-use mathlib.Core.Bool.{false, cond}
-use mathlib.Core.List.{List}
-use mathlib.Core.Option.{Option}
-use mathlib.Core.Path.{◌≡◌, refl, sym, ap, ◌∙◌}
-use Prim.Native.Nat.{ℕ}
-use lib.Dec.{eqb}
+use Rattle.std.proofs.Common.{◌≡◌, ℕ, false, cond, eqb, List, sym, refl, ap, ◌∙◌}
+use Rattle.std.proofs.Math.Option.{Option}
 use Rattle.avl.specs.Tree.{Dir, left, right}
 use Rattle.tree.specs.Node.{way}
 use Rattle.tree.specs.Walk.{walk_n}
@@ -24,7 +20,7 @@ use Rattle.cursor.specs.Work.{sight_of}
 use Rattle.cursor.specs.declared.command.Command.{Command as CodeCommand}
 use Rattle.cursor.specs.declared.cursor.Next.{Next}
 use Rattle.cursor.specs.declared.cursor.Next.TheVariants.{Gone, Kept, Shown, End}
-use Rattle.cursor.specs.declared.result.Sight.{Sight}
+use Rattle.cursor.specs.Given.{Sight}
 use Rattle.ops.specs.Ending.{either_n, look_n}
 use Rattle.ops.specs.Ops.{sought_n, end_n, none_n, handle_tests_n, get_n, beside_handle_n, first_n, nearest_n, code_dir, entered_n, entry_n, end_entry_n, cursor_test, peek_n, kept_unless, move_n}
 use Rattle.ops.specs.Image.{work_in, meant_by}
@@ -115,14 +111,14 @@ module _ {w : Option Pool} (s : State) (g : GoodState w s) (names : List ℕ) (c
       (λ z. where_done s.cursor c e x (entered_n f.slot f.side) Gone z (entered_same s g.pool names c parsed.key_high (tree_passed s names c z).0 s.cursor x))
       (λ z. where_lost s.cursor c e 0 (entered_n f.slot f.side) Gone z refl)
 
-  end_entry_kind : (d : CodeDir) (T : Then) → Row s meant (first_from (way d.0)) show T (cond (bad_tree s meant) 11 0) (λ _. nowhere)
-      → ((x : ℕ) → end_at (way d.0) c.tree x ≡ T s meant x) → Seen c (end_entry_n m n u c d)
+  end_entry_kind : (d : CodeDir) (T : Then) → Row s meant (first_from (way d)) show T (cond (bad_tree s meant) 11 0) (λ _. nowhere)
+      → ((x : ℕ) → end_at (way d) c.tree x ≡ T s meant x) → Seen c (end_entry_n m n u c d)
   unfolding end_entry_n
   end_entry_kind d T r k =
-      let x = end_n m u (way d.0) in
+      let x = end_n m u (way d) in
       let e = tree_test n c 0 in
       look_agrees g.pool r c c.tree e x (either_n e (End d) Gone) (tree_same s names c (λ _. refl))
-      (λ z. end_record s g.pool names c (way d.0) (tree_passed s names c z).0) (λ z. where_done s.cursor c e x (End d) Gone z (k x))
+      (λ z. end_record s g.pool names c (way d) (tree_passed s names c z).0) (λ z. where_done s.cursor c e x (End d) Gone z (k x))
       (λ z. where_lost s.cursor c e 0 (End d) Gone z refl)
 
   -- first_entry

@@ -1,8 +1,5 @@
 -- The ops that show a record or take one out: what the tables of `meaning` say of each at its number, which they compute. Assumes nothing.
-use mathlib.Core.Bool.{Bool, true, false, not, cond, ◌||◌}
-use mathlib.Core.Path.{◌≡◌, refl}
-use Prim.Native.Nat.{ℕ}
-use lib.Dec.{eqb}
+use Rattle.std.proofs.Common.{◌≡◌, ℕ, Bool, true, false, cond, not, ◌||◌, eqb, refl}
 use Rattle.avl.specs.Tree.{left, right}
 use Rattle.meaning.specs.Layout.{within}
 use Rattle.meaning.specs.Cursor.{Command, Cursor, nowhere, State, with_key, of_handle, at_cursor, nearest, first_from, next_of_handle, next_of_cursor, gone, kept, at_shown, where_it_stood, at_first, at_last, entered}

@@ -1,12 +1,6 @@
 -- A command whose number is no op's is refused, on the body and the state as in `meaning`. Assumes nothing.
-use mathlib.Core.Bool.{Bool, true, false, not, cond, ◌&&◌, ◌||◌}
-use mathlib.Core.List.{List, ◌∷◌}
-use mathlib.Core.Logic.{◌⊎◌, inl, inr}
-use mathlib.Core.Path.{◌≡◌, refl, sym, ap}
-use Prim.Native.Nat.{ℕ, ◌<◌}
-use native.Mathlib.Omega.{arith}
-use lib.Dec.{leb}
-use borrow.Author.Tests.{lt-leb}
+use Rattle.std.proofs.Common.{◌≡◌, ℕ, ◌<◌, Bool, true, false, cond, not, ◌&&◌, ◌||◌, leb, ◌⊎◌, List, ◌∷◌, sym, refl, ap, inl, inr, arith}
+use Rattle.std.proofs.lemmas.Bool.{lt-leb}
 use Rattle.meaning.specs.Layout.{within}
 use Rattle.meaning.specs.Cursor.{Command, nowhere, State}
 use Rattle.meaning.specs.Command.{last_op, always, unknown, Refusal, refuse◌at◌if◌, refusals, first_of, refusal, after_refusal, perform}

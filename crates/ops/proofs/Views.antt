@@ -1,8 +1,5 @@
 -- What a result does to the state, by how the command ended: it showed a record, took one out, added one, or was refused. Assumes nothing.
-use mathlib.Core.Path.{◌≡◌, sym, ap}
-use mathlib.Core.List.{List}
-use Prim.Native.Nat.{ℕ}
-use borrow.Author.Tests.{eq-eqb, ne_eqb}
+use Rattle.std.proofs.Common.{◌≡◌, ℕ, List, sym, ap, eq-eqb, ne_eqb}
 use Rattle.avl.specs.Tree.{Dir}
 use Rattle.meaning.specs.Layout.{within}
 use Rattle.meaning.specs.Cursor.{Cursor}

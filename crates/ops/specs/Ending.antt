@@ -11,8 +11,7 @@ use Rattle.slots.specs.declared.head.Numbers.{Numbers}
 use Rattle.slots.specs.declared.record.Record.{Record}
 use Rattle.cursor.specs.declared.command.Command.{Command}
 use Rattle.cursor.specs.declared.cursor.Next.{Next}
-use Rattle.cursor.specs.declared.result.Sight.{Sight}
-use Rattle.cursor.specs.declared.result.Step.{Step}
+use Rattle.cursor.specs.Given.{Sight, Step}
 
 -- what comes of the cursor: the one where the command is done, the other where it is refused with e
 abbrev pub either_n : ℕ → Next → Next → Next

@@ -9,7 +9,7 @@ use Rattle.slots.specs.Image.{head_of}
 use Rattle.cursor.specs.Tests.{named_n}
 use Rattle.cursor.specs.Work.{no_mark, Work}
 use Rattle.cursor.specs.declared.command.Command.{Command as CodeCommand}
-use Rattle.cursor.specs.declared.state.Mark.{Mark as CodeMark}
+use Rattle.cursor.specs.Given.{Mark as CodeMark}
 
 unfoldable pub mark_of : Option Mark → CodeMark
 mark_of none = no_mark

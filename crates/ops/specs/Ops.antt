@@ -1,13 +1,14 @@
 -- A model: what the code computes. No door's promise cites it, and it need not be believed.
 -- The commands op by op, on the body, the head's numbers, the cursor and the command's tree u: which record, the first test that is met, and how
 -- the command ends. Assumes nothing.
-use Rattle.std.specs.Prelude.{Bool, true, false, cond, not, List, ℕ, eqb}
+use Rattle.std.specs.Prelude.{Bool, true, cond, not, List, ℕ, eqb}
 use Rattle.avl.specs.Tree.{Dir, left, right}
 use Rattle.tree.specs.Node.{way}
 use Rattle.tree.specs.Walk.{bottom_n, walk_n}
 use Rattle.tree.specs.Search.{Ending, seek_n}
 use Rattle.tree.specs.Insert as insertion
 use Rattle.tree.specs.declared.dir.Dir.{Dir as CodeDir}
+use Rattle.tree.specs.declared.dir.Dir.TheVariants.{Left, Right}
 use Rattle.tree.specs.declared.node.AvlTree.{AvlTree}
 use Rattle.meaning.specs.Cursor.{Cursor, kind, standing, entry_key}
 use Rattle.meaning.specs.Command.{is_other}
@@ -21,10 +22,9 @@ use Rattle.cursor.specs.Work.{no_mark}
 use Rattle.cursor.specs.declared.command.Command.{Command}
 use Rattle.cursor.specs.declared.cursor.Next.{Next}
 use Rattle.cursor.specs.declared.cursor.Next.TheVariants.{Gone, Kept, Shown, Stood, End, Below}
-use Rattle.cursor.specs.declared.result.Sight.{Sight}
-use Rattle.cursor.specs.declared.state.Mark.{Mark}
+use Rattle.cursor.specs.Given.{Sight, Mark}
 use Rattle.ops.specs.Ending.{either_n, look_n, Changed, take_out_n, add_new_n}
-use Rattle.ops.specs.declared.mark.Settled.{Settled}
+use Rattle.ops.specs.Given.{Settled}
 
 -- ---- the records meant, and the tests
 
@@ -68,8 +68,8 @@ nearest_n x p = cond (eqb x 0) p x
 
 -- the code's side
 abbrev pub code_dir : Dir → CodeDir
-code_dir left = record { 0 = false }
-code_dir right = record { 0 = true }
+code_dir left = Left
+code_dir right = Right
 
 unfoldable pub entered_n : ℕ → Dir → Next
 entered_n x d = cond (eqb x 0) (Below (code_dir d)) Shown
@@ -81,7 +81,7 @@ entry_n m n u c =
 
 unfoldable pub end_entry_n : List ℕ → Numbers → AvlTree → Command → CodeDir → Sight
 end_entry_n m n u c d =
-    let x = end_n m u (way d.0) in let e = tree_test n c 0 in
+    let x = end_n m u (way d) in let e = tree_test n c 0 in
     look_n e x (either_n e (End d) Gone)
 
 -- BAD_CURSOR where there is none, then NONE
@@ -138,7 +138,7 @@ kind_at right = 4
 
 unfoldable pub insert_end_n : List ℕ → List ℕ → Numbers → Cursor → AvlTree → Command → CodeDir → Changed
 insert_end_n m names n k u c d =
-    let side = way d.0 in let x = standing k in
+    let side = way d in let x = standing k in
     let e : ℕ = cond (not (eqb (kind k) (kind_at side))) 12 (name_test names n c 18 (not (between_n m side x 0 c.key))) in
     add_new_n m names n u c (insertion.beside_n 14 m x side) e (either_n e (End d) (kept_unless e 18))
 

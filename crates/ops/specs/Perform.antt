@@ -14,11 +14,10 @@ use Rattle.cursor.specs.Tests.{aimed_n}
 use Rattle.cursor.specs.Work.{Work, begun_n, Did, sight_of, step_of}
 use Rattle.cursor.specs.declared.command.Command.{Command}
 use Rattle.cursor.specs.declared.cursor.Next.TheVariants.{Gone, Shown, Stood}
-use Rattle.cursor.specs.declared.result.Sight.{Sight}
-use Rattle.cursor.specs.declared.state.Mark.{Mark}
+use Rattle.cursor.specs.Given.{Sight, Mark}
 use Rattle.ops.specs.Ending.{look_n, refused_n, Changed}
 use Rattle.ops.specs.Ops.{code_dir, get_n, beside_handle_n, first_n, entry_n, end_entry_n, peek_n, move_n, remove_by_key_n, remove_handle_n, remove_here_n, remove_beside_n, add_n, insert_beside_n, insert_node_n, insert_end_n, settled_n, mark_n, rollback_n, commit_n, reset_n}
-use Rattle.ops.specs.declared.mark.Settled.{Settled}
+use Rattle.ops.specs.Given.{Settled}
 
 -- the ops that add or remove a record, and those that settle a mark or reset
 unfoldable pub alters : ℕ → Bool

@@ -1,75 +1,89 @@
 // Marks and reset. A mark's changes stand in the journal, which the batch's loop keeps; a rollback is
 // answered here and done there.
 ghost use Rattle.std.specs.Prelude.{◌≡◌};
-ghost use Rattle.ops.specs.Ops.{settled_n, mark_n, rollback_n, commit_n, reset_n};
+ghost use Rattle.cursor.specs.Given.{mark_in};
+ghost use Rattle.ops.specs.Given.{settled_in};
+ghost use Rattle.ops.specs.Ops.{mark_n, rollback_n, commit_n, reset_n};
 
-use cursor::result::change;
-use cursor::state::Mark;
-use format::code;
+use format::refusal::Refusal;
 use slots::head::Head;
 
-// What a command that shows, adds and removes nothing has done: the head and the mark after it, its code,
-// and what is to be journalled.
+// What a command asks of the journal.
+#[derive(Clone, Copy, PartialEq, Eq)]
+pub enum Ask {
+    Nothing,
+    // that a new one begins
+    Begin,
+    // that the changes in it are undone
+    Undo,
+}
+
+// What a command that shows, adds and removes nothing has done: the head after it, the mark, and what it
+// asks of the journal. Head and mark are two values that go apart again: a struct of both would be taken
+// apart at each use.
 #[derive(Clone, Copy)]
 pub struct Settled {
     pub head: Head,
-    pub mark: Mark,
-    pub code: u8,
-    pub change: u8,
-}
-
-pub fn finish(head: Head, mark: Mark, code: u8, change: u8) -> Settled
-    ensures { result ≡ settled_n head mark code change }
-{
-    Settled {
-        head,
-        mark,
-        code,
-        change,
-    }
+    pub mark: Option<u32>,
+    pub ask: Ask,
 }
 
 // 26 mark.
-pub fn mark(h: Head, m: Mark) -> Settled
-    ensures { result ≡ mark_n h m }
+#[tactic(auto, unfolding(crate::specs::Ops::mark_n))]
+pub fn mark(h: Head, m: Option<u32>) -> Result<Settled, Refusal>
+    ensures { settled_in h (mark_in m) result ≡ mark_n h (mark_in m) }
 {
-    if m.is_open {
-        return finish(h, m, code::MARK_OPEN, change::NONE);
+    if m.is_some() {
+        return Err(Refusal::MarkOpen);
     }
-    let opened = Mark {
-        used: h.numbers.used,
-        is_open: true,
-    };
-    finish(h, opened, code::DONE, change::BEGIN)
+    Ok(Settled {
+        head: h,
+        mark: Some(h.numbers.used),
+        ask: Ask::Begin,
+    })
 }
 
 // 27 rollback.
-pub fn rollback(h: Head, m: Mark) -> Settled
-    ensures { result ≡ rollback_n h m }
+#[tactic(auto, unfolding(crate::specs::Ops::rollback_n))]
+pub fn rollback(h: Head, m: Option<u32>) -> Result<Settled, Refusal>
+    ensures { settled_in h (mark_in m) result ≡ rollback_n h (mark_in m) }
 {
-    if m.is_open {
-        return finish(h, m, code::DONE, change::UNDO);
+    if m.is_none() {
+        return Err(Refusal::NoMark);
     }
-    finish(h, m, code::NO_MARK, change::NONE)
+    Ok(Settled {
+        head: h,
+        mark: m,
+        ask: Ask::Undo,
+    })
 }
 
 // 28 commit.
-pub fn commit(h: Head, m: Mark) -> Settled
-    ensures { result ≡ commit_n h m }
+#[tactic(auto, unfolding(crate::specs::Ops::commit_n))]
+pub fn commit(h: Head, m: Option<u32>) -> Result<Settled, Refusal>
+    ensures { settled_in h (mark_in m) result ≡ commit_n h (mark_in m) }
 {
-    if m.is_open {
-        return finish(h, Mark::NONE, code::DONE, change::NONE);
+    if m.is_none() {
+        return Err(Refusal::NoMark);
     }
-    finish(h, m, code::NO_MARK, change::NONE)
+    Ok(Settled {
+        head: h,
+        mark: None,
+        ask: Ask::Nothing,
+    })
 }
 
 // 29 reset.
-pub fn reset(body: &mut [u8], h: Head, m: Mark) -> Settled
-    ensures { (body.new, result) ≡ reset_n body.old h m }
+#[tactic(auto, unfolding(crate::specs::Ops::reset_n))]
+pub fn reset(body: &mut [u8], h: Head, m: Option<u32>) -> Result<Settled, Refusal>
+    ensures { (body.new, settled_in h (mark_in m) result) ≡ reset_n body.old h (mark_in m) }
 {
-    if m.is_open {
-        return finish(h, m, code::MARK_OPEN, change::NONE);
+    if m.is_some() {
+        return Err(Refusal::MarkOpen);
     }
-    let emptied = slots::change::reset(body, h);
-    finish(emptied, Mark::NONE, code::DONE, change::NONE)
+    Ok(Settled {
+        head: slots::change::reset(body, h),
+        mark: None,
+        ask: Ask::Nothing,
+    })
 }

@@ -1,100 +1,62 @@
-// One command, by its op: what shows a record, what adds or removes one, what settles a mark. The command is
-// given on the tree that it works on, and u is that tree.
+// One command, by its op: what shows a record, what adds or removes one, what settles a mark. An unknown
+// op is refused where it is parsed (op.rt).
 ghost use Rattle.std.specs.Prelude.{◌≡◌};
 ghost use Rattle.cursor.specs.Cursor.{cursor_of};
-ghost use Rattle.ops.specs.Perform.{alters, settles, see_n, alter_n, settle_n};
+ghost use Rattle.cursor.specs.Given.{mark_in, sight_in, step_in};
+ghost use Rattle.ops.specs.Given.{settled_in};
+ghost use Rattle.ops.specs.Op.{show_number, alter_number, settle_number};
+ghost use Rattle.ops.specs.Perform.{see_n, alter_n, settle_n};
 
-use super::add::{add, insert_beside, insert_end, insert_node};
-use super::ending::{look, refused};
-use super::look::{beside_handle, end_entry, entry, first, get, move_beside, peek};
-use super::mark::{Settled, commit, finish, mark, reset, rollback};
-use super::remove::{remove_beside, remove_by_key, remove_handle, remove_here};
-use cursor::command::Command;
+use super::mark::{Settled, commit, mark, reset, rollback};
+use super::op::{self, Alter, Show};
+use super::task::Task;
 use cursor::cursor::Next;
-use cursor::result::{Sight, Step, change};
-use cursor::state::{Batch, Mark};
-use format::{code, op};
+use cursor::result::{Refused, Sight, Step};
+use format::refusal::Refusal;
 use slots::head::Head;
-use tree::dir::Dir;
-use tree::node::AvlTree;
 
-// Whether an op adds or removes a record.
-pub fn is_change(n: u8) -> bool
-    ensures { result ≡ alters n }
-{
-    match n {
-        op::ADD => true,
-        op::REMOVE_BY_KEY => true,
-        op::REMOVE => true,
-        op::INSERT_BEFORE..=op::PREPEND => true,
-        _ => false,
+impl Task {
+    #[tactic(auto, unfolding(crate::specs::Perform::see_n))]
+    pub fn see(self, body: &[u8], op: Show) -> Result<Sight, Refused>
+        ensures { sight_in result ≡ see_n body.now self.batch.numbers (cursor_of self.batch.cursor) self.tree self.command (show_number op) }
+    {
+        match op {
+            Show::Get => self.get(body),
+            Show::Beside(d) => self.beside_handle(body, d),
+            Show::End(d) => self.first(body, d),
+            Show::Entry => self.entry(body),
+            Show::EndEntry(d) => self.end_entry(body, d),
+            Show::Peek(d) => self.peek(body, d),
+            Show::Move(d) => self.move_beside(body, d),
+        }
+    }
+
+    #[tactic(auto, unfolding(crate::specs::Perform::alter_n))]
+    pub fn alter(self, body: &mut [u8], names: &[u8], op: Alter) -> Result<Step, Refused>
+        ensures { (body.new, step_in result) ≡ alter_n body.old names.now self.batch.numbers (cursor_of self.batch.cursor) self.tree self.command (alter_number op) }
+    {
+        match op {
+            Alter::Add => self.add(body, names),
+            Alter::RemoveByKey => self.remove_by_key(body),
+            Alter::Remove => self.remove_handle(body),
+            Alter::InsertBeside(d) => self.insert_beside(body, names, d, Next::Stood),
+            Alter::InsertAndMove(d) => self.insert_beside(body, names, d, Next::Shown),
+            Alter::InsertNode => self.insert_node(body, names),
+            Alter::RemoveHere => self.remove_here(body),
+            Alter::RemoveBeside(d) => self.remove_beside(body, d),
+            Alter::InsertEnd(d) => self.insert_end(body, names, d),
+        }
     }
 }
 
-// Whether an op settles a mark or resets the pool.
-pub fn is_settling(n: u8) -> bool
-    ensures { result ≡ settles n }
+#[tactic(auto, unfolding(crate::specs::Perform::settle_n))]
+pub fn settle(body: &mut [u8], h: Head, m: Option<u32>, op: op::Settle) -> Result<Settled, Refusal>
+    ensures { (body.new, settled_in h (mark_in m) result) ≡ settle_n body.old h (mark_in m) (settle_number op) }
 {
-    match n {
-        op::MARK..=op::RESET => true,
-        _ => false,
-    }
-}
-
-// An op that shows a record; any other is refused with BAD_OP.
-pub fn see(body: &[u8], b: Batch, u: AvlTree, c: Command) -> Sight
-    ensures { result ≡ see_n body.now b.numbers (cursor_of b.cursor) u c c.op }
-{
-    let n = c.op;
-    match n {
-        op::GET => get(body, b, u, c),
-        op::NEXT => beside_handle(body, b, c, Dir::RIGHT),
-        op::PREV => beside_handle(body, b, c, Dir::LEFT),
-        op::FIRST => first(body, b, u, c, Dir::LEFT),
-        op::LAST => first(body, b, u, c, Dir::RIGHT),
-        op::ENTRY => entry(body, b, u, c),
-        op::FIRST_ENTRY => end_entry(body, b, u, c, Dir::LEFT),
-        op::LAST_ENTRY => end_entry(body, b, u, c, Dir::RIGHT),
-        op::PEEK_NEXT => peek(body, b, Dir::RIGHT),
-        op::PEEK_PREV => peek(body, b, Dir::LEFT),
-        op::MOVE_NEXT => move_beside(body, b, Dir::RIGHT),
-        op::MOVE_PREV => move_beside(body, b, Dir::LEFT),
-        _ => look(code::BAD_OP, 0, Next::Gone),
-    }
-}
-
-// An op that adds or removes a record; any other is refused with BAD_OP.
-pub fn alter(body: &mut [u8], names: &[u8], b: Batch, u: AvlTree, c: Command) -> Step
-    ensures { (body.new, result) ≡ alter_n body.old names.now b.numbers (cursor_of b.cursor) u c c.op }
-{
-    let n = c.op;
-    match n {
-        op::ADD => add(body, names, b, u, c),
-        op::REMOVE_BY_KEY => remove_by_key(body, b, u, c),
-        op::REMOVE => remove_handle(body, b, u, c),
-        op::INSERT_BEFORE => insert_beside(body, names, b, u, c, Dir::LEFT, Next::Stood),
-        op::INSERT_AFTER => insert_beside(body, names, b, u, c, Dir::RIGHT, Next::Stood),
-        op::INSERT_BEFORE_AND_MOVE => insert_beside(body, names, b, u, c, Dir::LEFT, Next::Shown),
-        op::INSERT_AFTER_AND_MOVE => insert_beside(body, names, b, u, c, Dir::RIGHT, Next::Shown),
-        op::INSERT_NODE => insert_node(body, names, b, u, c),
-        op::REMOVE_HERE => remove_here(body, b, u),
-        op::REMOVE_PREV => remove_beside(body, b, u, Dir::LEFT),
-        op::REMOVE_NEXT => remove_beside(body, b, u, Dir::RIGHT),
-        op::APPEND => insert_end(body, names, b, u, c, Dir::RIGHT),
-        op::PREPEND => insert_end(body, names, b, u, c, Dir::LEFT),
-        _ => refused(code::BAD_OP, Next::Gone),
-    }
-}
-
-// An op that settles a mark, or reset; any other is refused with BAD_OP.
-pub fn settle(body: &mut [u8], h: Head, m: Mark, n: u8) -> Settled
-    ensures { (body.new, result) ≡ settle_n body.old h m n }
-{
-    match n {
-        op::MARK => mark(h, m),
-        op::ROLLBACK => rollback(h, m),
-        op::COMMIT => commit(h, m),
-        op::RESET => reset(body, h, m),
-        _ => finish(h, m, code::BAD_OP, change::NONE),
+    match op {
+        op::Settle::Mark => mark(h, m),
+        op::Settle::Rollback => rollback(h, m),
+        op::Settle::Commit => commit(h, m),
+        op::Settle::Reset => reset(body, h, m),
     }
 }

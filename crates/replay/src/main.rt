@@ -23,30 +23,82 @@
 mod shown;
 mod sums;
 
-ghost use Rattle.std.specs.Prelude.{◌≡◌, min};
-
 use batch::door::batch;
 use console::{print, read, space};
 use create::create::create;
-use format::{code, command, entry, header, record};
+use format::{command, entry, header, record, refusal};
 
 // The most runs that are run.
 const RUNS: u32 = 100_000_000;
 
-mod mode {
-    pub const END: u8 = 0;
-
-    pub const SUM: u8 = 1;
-
-    pub const LINES: u8 = 2;
+// How a run is printed, by its number in the input. An input that has ended reads as the end; a run of another
+// mode is run and not printed.
+#[derive(Clone, Copy, PartialEq, Eq)]
+enum Mode {
+    End,
+    Sum,
+    Lines,
+    Silent,
 }
 
-// How a run is printed, where its pool's text starts, and how long its pool is.
+impl From<u8> for Mode {
+    fn from(mode: u8) -> Mode {
+        match mode {
+            0 => Mode::End,
+            1 => Mode::Sum,
+            2 => Mode::Lines,
+            _ => Mode::Silent,
+        }
+    }
+}
+
+// A run: how it is printed, where its pool's text starts, how long its pool is, and the sum so far.
 #[derive(Clone, Copy)]
-struct Frame {
-    mode: u8,
+struct Run {
+    mode: Mode,
     text: usize,
     length: usize,
+    sum: u64,
+}
+
+impl Run {
+    // Runs the first `count` commands of `w` on the pool and answers for the last of them.
+    fn first_commands(&mut self, p: &mut [u8], w: &mut [u8], answers: &mut [u8], count: u16) {
+        let Some(last) = count.checked_sub(1) else {
+            return;
+        };
+        cut(w, count);
+        let outcome = batch(p, w, answers);
+        let code = refusal::code(outcome);
+        if self.mode != Mode::Lines {
+            let told = code as u64 + 256 * (outcome.unwrap_or(0) as u64);
+            let sum = sums::mix(self.sum, told);
+            self.sum = sums::mix_line(sum, p, answers, last, self.text);
+        } else if outcome.is_err() {
+            print::line(format_args!("batch {code}"));
+        } else {
+            shown::line(p, answers, last);
+        }
+    }
+
+    // Each command of the batch `w`; `spare` takes the copies of the pool.
+    fn commands(&mut self, p: &mut [u8], spare: &mut [u8], w: &mut [u8]) {
+        let mut answers = space::all_of::<{ space::ANSWERS }>(0);
+        let count = fields::get::<u16>(w, format::batch::COUNT);
+        for k in 1..count {
+            fields::copy_in(spare, 0, p);
+            let n = space::within(self.length, spare);
+            self.first_commands(&mut spare[..n], w, &mut answers, k);
+        }
+        self.first_commands(p, w, &mut answers, count);
+    }
+
+    // The next batch of the input.
+    fn next_batch(&mut self, p: &mut [u8], spare: &mut [u8], w: &mut [u8]) {
+        let length = read::next::<u16>() as usize;
+        let n = read::part(length, w);
+        self.commands(p, spare, &mut w[..n]);
+    }
 }
 
 // Makes the batch `w` one of its first `count` commands. A batch of the input has at most 65,535 bytes, so
@@ -54,127 +106,46 @@ struct Frame {
 fn cut(w: &mut [u8], count: u16) {
     let names = format::batch::SIZE + command::SIZE * (count as usize);
     let n = space::within(names, w);
-    let left = w.len() - n;
-    fields::put_u16(w, format::batch::COUNT, count);
-    fields::put_u32(w, format::batch::NAMES, names as u32);
-    fields::put_u16(w, format::batch::NAMES_LEN, low(left));
-}
-
-// The number, or 65,535 if it is above that.
-fn low(n: usize) -> u16
-    ensures { result ≡ min n 65_535 }
-{
-    if n < 65_535 {
-        return n as u16;
-    }
-    65_535
-}
-
-// Runs the first `count` commands of `w` on the pool and answers for the last of them; the sum after it.
-fn run_first(
-    p: &mut [u8],
-    w: &mut [u8],
-    answers: &mut [u8],
-    count: u16,
-    r: Frame,
-    sum: u64,
-) -> u64 {
-    if count == 0 {
-        return sum;
-    }
-    cut(w, count);
-    let outcome = batch(p, w, answers);
-    if r.mode == mode::LINES {
-        if outcome.code != code::DONE {
-            print::number_line(b"batch ", outcome.code as u64);
-            return sum;
-        }
-        shown::line(p, answers, count - 1);
-        return sum;
-    }
-    let s = sums::mix(sum, outcome.code as u64 + 256 * (outcome.answered as u64));
-    sums::mix_line(s, p, answers, count - 1, r.text)
-}
-
-// Each command of the batch `w`; `spare` takes the copies of the pool.
-fn commands(p: &mut [u8], spare: &mut [u8], w: &mut [u8], r: Frame, sum: u64) -> u64 {
-    let mut answers = space::answers();
-    let count = fields::get_u16(w, format::batch::COUNT);
-    let mut s = sum;
-    let mut k: u16 = 1;
-    while k < count {
-        fields::copy_in(spare, 0, p);
-        let n = space::within(r.length, spare);
-        s = run_first(&mut spare[..n], w, &mut answers, k, r, s);
-        k += 1;
-    }
-    run_first(p, w, &mut answers, count, r, s)
-}
-
-// The next batch of the input.
-fn next_batch(p: &mut [u8], spare: &mut [u8], w: &mut [u8], r: Frame, sum: u64) -> u64 {
-    let length = read::next_u16() as usize;
-    let n = read::part(length, w);
-    commands(p, spare, &mut w[..n], r, sum)
-}
-
-fn next_batches(
-    p: &mut [u8],
-    spare: &mut [u8],
-    w: &mut [u8],
-    r: Frame,
-    sum: u64,
-    count: u16,
-) -> u64 {
-    let mut left = count;
-    let mut s = sum;
-    while left > 0 {
-        s = next_batch(p, spare, w, r, s);
-        left -= 1;
-    }
-    s
+    let left = u16::try_from(w.len() - n).unwrap_or(u16::MAX);
+    fields::put(w, format::batch::COUNT, count);
+    fields::put(w, format::batch::NAMES, names as u32);
+    fields::put(w, format::batch::NAMES_LEN, left);
 }
 
 // The run of the given mode.
-fn next_run(mode: u8, space: &mut [u8], spare: &mut [u8], w: &mut [u8]) {
-    let n = read::next_u16() as u32;
-    let t = read::next_u16() as u32;
-    let x = read::next_u16() as u32;
-    let count = read::next_u16();
+fn next_run(mode: Mode, space: &mut [u8], spare: &mut [u8], w: &mut [u8]) {
+    let n = read::next::<u16>() as u32;
+    let t = read::next::<u16>() as u32;
+    let x = read::next::<u16>() as u32;
+    let count = read::next::<u16>();
     let text = header::SIZE + entry::SIZE * (t as usize) + record::SIZE * (n as usize);
-    let r = Frame {
+    let length = text + (x as usize);
+    let used = space::within(length, space);
+    let pool = &mut space[..used];
+    let code = refusal::code(create(n, t, x, pool));
+    let mut run = Run {
         mode,
         text,
-        length: text + (x as usize),
+        length,
+        sum: sums::mix(sums::START, code as u64),
     };
-    let used = space::within(r.length, space);
-    let code = create(n, t, x, &mut space[..used]);
-    let m = space::within(r.length, space);
-    let start = sums::mix(sums::START, code as u64);
-    let sum = next_batches(&mut space[..m], spare, w, r, start, count);
-    if mode == mode::SUM {
-        print::text(b"run ");
-        print::hex(sum, 16);
-        print::newline();
+    for _ in 0..count {
+        run.next_batch(pool, spare, w);
     }
-}
-
-// The runs in turn, until the input ends, which reads as mode 0.
-fn run(space: &mut [u8], spare: &mut [u8], w: &mut [u8]) {
-    let mut left = RUNS;
-    while left > 0 {
-        let mode = read::next_u8();
-        if mode == mode::END {
-            return;
-        }
-        next_run(mode, space, spare, w);
-        left -= 1;
+    if mode == Mode::Sum {
+        print::line(format_args!("run {:016x}", run.sum));
     }
 }
 
 fn main() {
-    let mut space = space::pool();
-    let mut spare = space::pool();
-    let mut w = space::input();
-    run(&mut space, &mut spare, &mut w);
+    let mut space = space::all_of::<{ space::POOL }>(0);
+    let mut spare = space::all_of::<{ space::POOL }>(0);
+    let mut w = space::all_of::<{ space::INPUT }>(0);
+    for _ in 0..RUNS {
+        let mode = Mode::from(read::next::<u8>());
+        if mode == Mode::End {
+            return;
+        }
+        next_run(mode, &mut space, &mut spare, &mut w);
+    }
 }

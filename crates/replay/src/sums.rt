@@ -16,21 +16,14 @@ pub fn mix(sum: u64, word: u64) -> u64 {
 
 // Takes in the words of `b`.
 fn mix_all(sum: u64, b: &[u8]) -> u64 {
-    let mut s = sum;
-    let mut at: usize = 0;
-    while 8 <= b.len() - at {
-        s = mix(s, fields::get_u64(b, at));
-        at += 8;
-    }
-    s
+    b.chunks_exact(8)
+        .fold(sum, |s, word| mix(s, fields::get::<u64>(word, 0)))
 }
 
 // Takes in the answer i, counted from 0, and the first `text` bytes of the pool, which stand before its text.
 pub fn mix_line(sum: u64, p: &[u8], answers: &[u8], i: u16, text: usize) -> u64 {
-    let at = answer::SIZE * (i as usize);
-    let a = mix(sum, fields::get_u64(answers, at));
-    let b = mix(a, fields::get_u64(answers, at + 8));
-    let c = mix(b, fields::get_u64(answers, at + 16));
+    let (rows, _) = answers.as_chunks::<{ answer::SIZE }>();
+    let row = rows.get(i as usize).unwrap_or(&[0; answer::SIZE]);
     let n = space::within(text, p);
-    mix_all(c, &p[..n])
+    mix_all(mix_all(sum, row), &p[..n])
 }

@@ -1,14 +1,7 @@
 -- The records and the text of a well-formed pool are rows that hold any one of its trees, as crate `tree` says it. Assumes nothing.
-use mathlib.Core.Bool.{Bool, true, false, cond}
-use mathlib.Core.List.{List, [], ◌∷◌, ◌++◌}
-use mathlib.Core.Option.{Option, none, some}
-use mathlib.Core.Path.{◌≡◌, refl, sym, ap, ap₂, ◌∙◌}
-use Prim.Native.Nat.{ℕ, suc, ◌+◌, ◌≤◌, ◌<◌, ◌^◌}
-use native.Mathlib.Nat.{add-zero, add-suc, suc-add}
-use native.Mathlib.Omega.{arith}
-use lib.Dec.{eqb, leb}
-use lib.ListN.{length, get_or, length-replicate}
-use borrow.Author.Tests.{eqb-true, le-leb}
+use Rattle.std.proofs.Common.{◌≡◌, ℕ, suc, ◌+◌, ◌^◌, ◌<◌, ◌≤◌, Bool, true, false, cond, eqb, leb, List, [], ◌∷◌, ◌++◌, length, get_or, sym, refl, ap, ◌∙◌, ap₂, add-zero, add-suc, suc-add, arith, eqb-true, le-leb}
+use Rattle.std.proofs.Math.Option.{Option, none, some}
+use Rattle.std.proofs.lemmas.List.{length-replicate}
 use Rattle.fields.specs.Number.{digits}
 use Rattle.avl.specs.Tree.{left, Tree, leaf, node, list, height}
 use Rattle.avl.specs.Links.{Links, unlinked, links_in}

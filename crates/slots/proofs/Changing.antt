@@ -1,13 +1,7 @@
 -- The changes of a pool under way, run on its body and its head, give the body and the head of the changed pool: a record put in, taken out, added.
 -- Assumes nothing.
-use mathlib.Core.Bool.{cond}
-use mathlib.Core.List.{List, ◌∷◌}
-use mathlib.Core.Option.{Option, none, some}
-use mathlib.Core.Path.{◌≡◌, refl, sym, ap, ap₂, ◌∙◌, subst}
-use Prim.Native.Nat.{ℕ, suc, ◌+◌, ◌*◌, ◌-◌, ◌≤◌}
-use native.Mathlib.Omega.{arith}
-use lib.Dec.{eqb}
-use lib.ListN.{length, drop, length-append}
+use Rattle.std.proofs.Common.{◌≡◌, ℕ, suc, ◌+◌, ◌-◌, ◌*◌, ◌≤◌, cond, eqb, List, ◌∷◌, length, drop, sym, refl, ap, ◌∙◌, subst, ap₂, arith, length-append}
+use Rattle.std.proofs.Math.Option.{Option, none, some}
 use Rattle.fields.specs.Part.{part, splice}
 use Rattle.avl.specs.Tree.{left, Tree, list}
 use Rattle.avl.specs.Way.{above, side}

@@ -1,15 +1,9 @@
 -- One slot and one tree of a pool changed, as a change of the rows that hold the tree: the links of every other tree stay. Where the search for
 -- the record's key ends in the tree. Assumes nothing.
-use mathlib.Core.Bool.{Bool, true, false, cond}
-use mathlib.Core.List.{List, ◌∷◌, ◌++◌}
-use mathlib.Core.Option.{Option, none, some}
-use mathlib.Core.Path.{◌≡◌, refl, sym, ap, ap₂, ◌∙◌, subst}
-use Prim.Native.Nat.{ℕ, ◌+◌, ◌≤◌}
-use native.Mathlib.Decide.{ℕ_discrete}
-use native.Mathlib.Omega.{arith}
-use lib.Dec.{eqb, leb}
-use lib.ListN.{length}
-use borrow.Author.Tests.{eqb-true, eqb-false, eq-eqb, le-leb}
+use Rattle.std.proofs.Common.{◌≡◌, ℕ, ◌+◌, ◌≤◌, Bool, true, false, cond, eqb, leb, List, ◌∷◌, ◌++◌, length, sym, refl, ap, ◌∙◌, subst, ap₂, arith, eq-eqb, eqb-true, le-leb}
+use Rattle.std.proofs.Math.Decide.{ℕ_discrete}
+use Rattle.std.proofs.Math.Option.{Option, none, some}
+use Rattle.std.proofs.lemmas.Bool.{eqb-false}
 use Rattle.avl.specs.Tree.{left, right, Bal, Tree, leaf, node, top, list}
 use Rattle.avl.specs.Way.{before, after}
 use Rattle.avl.specs.Links.{Links, unlinked, links_in}

@@ -1,13 +1,7 @@
 -- A record's own fields in the records of a pool: stored into a free slot they are its cargo, and a cleared slot is a free one. Other slots and
 -- the links stay. Assumes nothing.
-use mathlib.Core.Bool.{cond}
-use mathlib.Core.List.{List, [], ◌++◌, append_assoc}
-use mathlib.Core.Option.{none, some}
-use mathlib.Core.Path.{◌≡◌, refl, sym, ap, ap₂, ◌∙◌, subst}
-use Prim.Native.Nat.{ℕ, zero, suc, ◌+◌, ◌*◌, ◌-◌, ◌≤◌, ◌<◌}
-use native.Mathlib.Omega.{arith}
-use lib.ListN.{length, replicate, length-append}
-use borrow.Author.Tests.{ne_eqb}
+use Rattle.std.proofs.Common.{◌≡◌, ℕ, zero, suc, ◌+◌, ◌-◌, ◌*◌, ◌<◌, ◌≤◌, cond, List, [], ◌++◌, length, replicate, sym, refl, ap, ◌∙◌, subst, ap₂, append_assoc, arith, length-append, ne_eqb}
+use Rattle.std.proofs.Math.Option.{none, some}
 use Rattle.fields.specs.Number.{digits, put_le}
 use Rattle.fields.specs.Part.{splice}
 use Rattle.fields.proofs.Numbers.{length_digits}

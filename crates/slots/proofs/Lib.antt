@@ -1,6 +1,5 @@
 pub mod RecordSteps
 pub mod HeadSteps
-pub mod ChangeSteps
 pub mod Bodies
 pub mod Standing
 pub mod Looking

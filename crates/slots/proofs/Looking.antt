@@ -1,15 +1,10 @@
 -- What is read of the body and the head of a well-formed pool is what `meaning` says of the pool: a slot's own fields, the lowest free slot, a tree
 -- by value, where a search ends, the ends of a tree, a record's neighbours. Assumes nothing.
-use mathlib.Core.Bool.{Bool, true, cond}
-use mathlib.Core.List.{List, [], ◌∷◌, ◌++◌}
-use mathlib.Core.Option.{Option, none, some}
-use mathlib.Core.Path.{◌≡◌, refl, sym, ap, ◌∙◌}
-use Prim.Native.Nat.{ℕ, zero, suc, ◌+◌, ◌*◌, ◌-◌, ◌≤◌, ◌<◌, compare}
-use native.Mathlib.Omega.{arith}
-use lib.Dec.{eqb, eqb-suc-zero}
-use lib.ListN.{length, get_or, drop, replicate, length-append}
-use lib.Seq.{drop-cons, drop-length}
-use borrow.Author.Tests.{ne_eqb, le-ltb}
+use Rattle.std.proofs.Common.{◌≡◌, ℕ, zero, suc, ◌+◌, ◌-◌, ◌*◌, ◌<◌, ◌≤◌, Bool, true, cond, eqb, List, [], ◌∷◌, ◌++◌, length, get_or, drop, replicate, sym, refl, ap, ◌∙◌, arith, length-append, drop-cons, le-ltb, ne_eqb}
+use Rattle.std.proofs.Math.Dec.{eqb-suc-zero}
+use Rattle.std.proofs.Math.Option.{Option, none, some}
+use Rattle.std.proofs.Math.Seq.{drop-length}
+use Prim.Native.Nat.{compare}
 use Rattle.fields.specs.Part.{part}
 use Rattle.fields.specs.Number.{value, get_le}
 use Rattle.avl.specs.Tree.{Dir, left, right, Tree, leaf, top, list}

@@ -1,11 +1,7 @@
 -- The empty place beside a record of a well-formed pool is where the search for a key strictly between the record and its neighbour ends.
 -- Assumes nothing.
-use mathlib.Core.Bool.{true}
-use mathlib.Core.List.{List, [], ◌∷◌, ◌++◌}
-use mathlib.Core.Path.{◌≡◌, sym, ap, ◌∙◌, subst}
-use Prim.Native.Nat.{ℕ, ◌≤◌, Ordering}
-use native.Mathlib.Omega.{arith}
-use lib.ListN.{length}
+use Rattle.std.proofs.Common.{◌≡◌, ℕ, ◌≤◌, true, List, [], ◌∷◌, ◌++◌, length, sym, ap, ◌∙◌, subst, arith}
+use Prim.Native.Nat.{Ordering}
 use Rattle.avl.specs.Tree.{Dir, left, flip, Tree, leaf, list}
 use Rattle.avl.specs.Way.{above, side, before, after}
 use Rattle.avl.specs.Edit.{beside}

@@ -1,26 +1,24 @@
 // An answer: 24 bytes.
-ghost use Rattle.std.specs.Prelude.{◌≡◌, ◌+◌, ◌*◌, ◌≤◌, length};
+ghost use Rattle.std.specs.Prelude.{◌≡◌};
 ghost use Rattle.slots.specs.Answer.{put_answer_n};
 
 use super::record::Record;
 use format::answer;
 
-// Answer k of a batch: code, cursor kind, and the record v of slot x, which is zeros where there is none.
-// The caller knows that there is room for it, and its stores go through a part of 24 bytes: none of
-// them is tested.
-pub fn put_answer(out: &mut [u8], k: u16, code: u8, kind: u8, x: u16, v: Record)
-    requires { 24 * (k + 1) ≤ length out.old }
-    ensures { out.new ≡ put_answer_n out.old k code kind x v }
+// An answer into its row of the answers: code and cursor kind, bytes that C reads, and the record v of slot x,
+// which is zeros where there is none. It is inlined, so that the row's length, which the caller knows, settles each
+// store's test.
+#[inline]
+#[tactic(auto, unfolding(crate::specs::Answer::put_answer_n))]
+pub fn put_answer(row: &mut [u8], code: u8, kind: u8, x: u16, v: Record)
+    ensures { row.new ≡ put_answer_n row.old 0 code kind x v }
 {
-    let at = answer::SIZE * (k as usize);
-    let end = at + answer::SIZE;
-    let r = &mut out[at..end];
-    fields::put_u8(r, answer::CODE, code);
-    fields::put_u8(r, answer::KIND, kind);
-    fields::put_u16(r, answer::SLOT, x);
-    fields::put_u32(r, answer::STAMP, v.stamp);
-    fields::put_u64(r, answer::KEY, v.key);
-    fields::put_u32(r, answer::NAME_START, v.start);
-    fields::put_u16(r, answer::NAME_LEN, v.len);
-    fields::put_u16(r, answer::ZEROS, 0);
+    fields::put::<u8>(row, answer::CODE, code);
+    fields::put::<u8>(row, answer::KIND, kind);
+    fields::put::<u16>(row, answer::SLOT, x);
+    fields::put::<u32>(row, answer::STAMP, v.stamp);
+    fields::put::<u64>(row, answer::KEY, v.key);
+    fields::put::<u32>(row, answer::NAME_START, v.start);
+    fields::put::<u16>(row, answer::NAME_LEN, v.len);
+    fields::put::<u16>(row, answer::ZEROS, 0);
 }

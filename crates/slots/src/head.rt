@@ -1,8 +1,9 @@
 // The header's numbers and the tree table, by value.
 ghost use Rattle.std.specs.Prelude.{◌≡◌};
-ghost use Rattle.slots.specs.Head.{no_tree, entry_n, load_n, put_entry_n, store_n, tree_n, set_tree_n};
+ghost use Rattle.slots.specs.Head.{entry_n, load_n, put_entry_n, store_n, tree_n, set_tree_n};
 
 use format::{entry, header, limit};
+use std::array;
 use tree::node::AvlTree;
 
 // The header's numbers. Its fields fill it, so that a copy moves no padding.
@@ -11,7 +12,7 @@ pub struct Numbers {
     // N and T
     pub slots: u16,
     pub trees: u16,
-    // the number of live records, and the lowest free slot, 0 for none
+    // the number of live records, and the lowest free slot, 0 for none, as `free_slot` of `meaning` gives it
     pub live: u16,
     pub free: u16,
     // X, and how much of the text is used
@@ -28,23 +29,18 @@ pub struct Head {
     pub table: [AvlTree; 8],
 }
 
-fn no_tree() -> AvlTree
-    ensures { result ≡ no_tree }
-{
-    AvlTree { root: 0, count: 0 }
-}
-
 // The entry of tree i + 1, empty beyond t.
+#[tactic(auto, unfolding(crate::specs::Head::entry_n))]
 fn entry_at(pool: &[u8], t: u16, i: u16) -> AvlTree
     ensures { result ≡ entry_n pool.now t i }
 {
     if t <= i {
-        return no_tree();
+        return AvlTree::default();
     }
     let at = header::SIZE + entry::SIZE * (i as usize);
     AvlTree {
-        root: fields::get_u16(pool, at + entry::ROOT),
-        count: fields::get_u16(pool, at + entry::COUNT),
+        root: fields::get::<u16>(pool, at + entry::ROOT),
+        count: fields::get::<u16>(pool, at + entry::COUNT),
     }
 }
 
@@ -52,32 +48,24 @@ fn entry_at(pool: &[u8], t: u16, i: u16) -> AvlTree
 pub fn load(pool: &[u8], live: u16, free: u16) -> Head
     ensures { result ≡ load_n pool.now live free }
 {
-    let t = fields::get_u16(pool, header::TREES);
-    let n = Numbers {
-        slots: fields::get_u16(pool, header::SLOTS),
-        trees: t,
+    let trees = fields::get::<u16>(pool, header::TREES);
+    let numbers = Numbers {
+        slots: fields::get::<u16>(pool, header::SLOTS),
+        trees,
         live,
         free,
-        size: fields::get_u32(pool, header::TEXT_SIZE),
-        used: fields::get_u32(pool, header::TEXT_USED),
-        next: fields::get_u32(pool, header::NEXT_STAMP),
+        size: fields::get::<u32>(pool, header::TEXT_SIZE),
+        used: fields::get::<u32>(pool, header::TEXT_USED),
+        next: fields::get::<u32>(pool, header::NEXT_STAMP),
     };
     Head {
-        numbers: n,
-        table: [
-            entry_at(pool, t, 0),
-            entry_at(pool, t, 1),
-            entry_at(pool, t, 2),
-            entry_at(pool, t, 3),
-            entry_at(pool, t, 4),
-            entry_at(pool, t, 5),
-            entry_at(pool, t, 6),
-            entry_at(pool, t, 7),
-        ],
+        numbers,
+        table: array::from_fn(|i| entry_at(pool, trees, i as u16)),
     }
 }
 
 // Stores the entry of tree i + 1, if there is one.
+#[tactic(auto, unfolding(crate::specs::Head::put_entry_n))]
 fn put_entry(pool: &mut [u8], t: u16, i: u16, v: AvlTree)
     ensures { pool.new ≡ put_entry_n pool.old t i v }
 {
@@ -85,8 +73,8 @@ fn put_entry(pool: &mut [u8], t: u16, i: u16, v: AvlTree)
         return;
     }
     let at = header::SIZE + entry::SIZE * (i as usize);
-    fields::put_u16(pool, at + entry::ROOT, v.root);
-    fields::put_u16(pool, at + entry::COUNT, v.count);
+    fields::put::<u16>(pool, at + entry::ROOT, v.root);
+    fields::put::<u16>(pool, at + entry::COUNT, v.count);
 }
 
 // Stores what a batch may change of the header, and the tree table.
@@ -94,47 +82,40 @@ pub fn store(pool: &mut [u8], h: Head)
     ensures { pool.new ≡ store_n pool.old h }
 {
     let n = h.numbers;
-    let ts = h.table;
-    fields::put_u16(pool, header::LIVE, n.live);
-    fields::put_u32(pool, header::TEXT_USED, n.used);
-    fields::put_u32(pool, header::NEXT_STAMP, n.next);
-    put_entry(pool, n.trees, 0, ts[0]);
-    put_entry(pool, n.trees, 1, ts[1]);
-    put_entry(pool, n.trees, 2, ts[2]);
-    put_entry(pool, n.trees, 3, ts[3]);
-    put_entry(pool, n.trees, 4, ts[4]);
-    put_entry(pool, n.trees, 5, ts[5]);
-    put_entry(pool, n.trees, 6, ts[6]);
-    put_entry(pool, n.trees, 7, ts[7]);
+    fields::put::<u16>(pool, header::LIVE, n.live);
+    fields::put::<u32>(pool, header::TEXT_USED, n.used);
+    fields::put::<u32>(pool, header::NEXT_STAMP, n.next);
+    for (i, t) in h.table.iter().enumerate() {
+        put_entry(pool, n.trees, i as u16, *t);
+    }
+}
+
+// Tree t of the table; an empty one for a number that is no tree's.
+#[tactic(auto, unfolding(crate::specs::Head::tree_n))]
+pub fn tree_in(table: &[AvlTree; 8], t: u8) -> AvlTree
+    ensures { result ≡ tree_n table.now t }
+{
+    match t {
+        1..=limit::LAST_TREE => table[t as usize - 1],
+        _ => AvlTree::default(),
+    }
+}
+
+// Makes v tree t of the table, if t is a tree's number.
+#[tactic(auto, unfolding(crate::specs::Head::set_tree_n))]
+pub fn set_tree(table: &mut [AvlTree; 8], t: u8, v: AvlTree)
+    ensures { table.new ≡ set_tree_n table.old t v }
+{
+    if let 1..=limit::LAST_TREE = t {
+        table[t as usize - 1] = v;
+    }
 }
 
 impl Head {
     // Tree t; an empty one for a number that is no tree's.
-    pub fn tree(self, t: u8) -> AvlTree
-        ensures { result ≡ tree_n self.table t }
+    pub fn tree(&self, t: u8) -> AvlTree
+        ensures { result ≡ tree_n self.now.table t }
     {
-        if t == 0 {
-            return no_tree();
-        }
-        if limit::LAST_TREE < t {
-            return no_tree();
-        }
-        let ts = self.table;
-        ts[t as usize - 1]
+        tree_in(&self.table, t)
     }
-}
-
-// The table with v as tree t.
-pub fn set_tree(table: [AvlTree; 8], t: u8, v: AvlTree) -> [AvlTree; 8]
-    ensures { result ≡ set_tree_n table t v }
-{
-    let mut ts = table;
-    if t == 0 {
-        return ts;
-    }
-    if limit::LAST_TREE < t {
-        return ts;
-    }
-    ts[t as usize - 1] = v;
-    ts
 }

@@ -2,8 +2,7 @@
 // read once and stored once; its records and its text are one lent slice, the body. Slot x is the 32
 // bytes of the body from 32 (x - 1) on, as in crate `tree`, and the text follows the records.
 //
-// Every public function but `put_answer`, which is to have room for its answer, is total and has no
-// `requires`; each promise is an equation with a model of specs/.
+// Every public function is total and has no `requires`; each promise is an equation with a model of specs/.
 // Run on the head and the body of a well-formed pool of `meaning`, the models read what it holds
 // (proofs/Looking.antt, Placing.antt) and leave the head and the body of the pool that `meaning` says
 // (Changing.antt, Texts.antt); Opening.antt and Closing.antt lead from a pool's bytes and back to them.

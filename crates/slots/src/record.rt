@@ -1,10 +1,11 @@
 // A record's own fields in the body: what it holds besides its links.
-ghost use Rattle.std.specs.Prelude.{◌≡◌, ◌-◌, ◌<◌};
-ghost use Rattle.slots.specs.Record.{no_record, record_n, fill_n, clear_n, lowest_n};
+ghost use Rattle.std.specs.Prelude.{◌≡◌, ◌*◌, ◌-◌};
+ghost use Rattle.slots.specs.Record.{record_n, fields_at, fields_put, fill_n, clear_n, lowest_n};
 
 use format::record;
 
-#[derive(Clone, Copy)]
+// The default is no record: all fields 0.
+#[derive(Clone, Copy, Default)]
 pub struct Record {
     pub key: u64,
     pub stamp: u32,
@@ -13,68 +14,61 @@ pub struct Record {
     pub tree: u8,
 }
 
-// No record: all fields 0.
-pub fn nothing() -> Record
-    ensures { result ≡ no_record }
-{
-    Record {
-        key: 0,
-        stamp: 0,
-        start: 0,
-        len: 0,
-        tree: 0,
+// Both are inlined: where the rows are known to be one row, no field is tested.
+impl Record {
+    // The fields of row i of the rows. What of it lies beyond them reads as 0.
+    #[inline(always)]
+    #[tactic(auto, unfolding(crate::specs::Record::fields_at))]
+    fn read(rows: &[u8], i: u16) -> Record
+        ensures { result ≡ fields_at rows.now (32 * i) }
+    {
+        let at = record::SIZE * (i as usize);
+        Record {
+            key: fields::get::<u64>(rows, at + record::KEY),
+            stamp: fields::get::<u32>(rows, at + record::STAMP),
+            start: fields::get::<u32>(rows, at + record::NAME_START),
+            len: fields::get::<u16>(rows, at + record::NAME_LEN),
+            tree: fields::get::<u8>(rows, at + record::TREE),
+        }
+    }
+
+    // Stores the fields in row i of the rows, but what of it lies beyond them.
+    #[inline(always)]
+    #[tactic(auto, unfolding(crate::specs::Record::fields_put))]
+    fn write(self, rows: &mut [u8], i: u16)
+        ensures { rows.new ≡ fields_put rows.old (32 * i) self }
+    {
+        let at = record::SIZE * (i as usize);
+        fields::put::<u64>(rows, at + record::KEY, self.key);
+        fields::put::<u8>(rows, at + record::TREE, self.tree);
+        fields::put::<u32>(rows, at + record::STAMP, self.stamp);
+        fields::put::<u32>(rows, at + record::NAME_START, self.start);
+        fields::put::<u16>(rows, at + record::NAME_LEN, self.len);
     }
 }
 
-// The record of slot x, read field by field: for a slot that the body may have in part only.
-fn part_record(body: &[u8], x: u16) -> Record
-    requires { 0 < x }
-    ensures { result ≡ record_n body.now x }
+// A row that the body may have in part only: no sound pool has one. Out of line, it leaves `record_at` short.
+#[cold]
+#[inline(never)]
+fn part_at(body: &[u8], i: u16) -> Record
+    ensures { result ≡ fields_at body.now (32 * i) }
 {
-    let at = record::SIZE * (x as usize - 1);
-    Record {
-        key: fields::get_u64(body, at + record::KEY),
-        stamp: fields::get_u32(body, at + record::STAMP),
-        start: fields::get_u32(body, at + record::NAME_START),
-        len: fields::get_u16(body, at + record::NAME_LEN),
-        tree: fields::get_u8(body, at + record::TREE),
-    }
+    Record::read(body, i)
 }
 
-// The record of slot x; slot 0 has none. One test for the whole slot spares one for each field.
+// The record of slot x; slot 0 has none. One test for the whole row spares one for each field.
+#[inline(always)]
 pub fn record_at(body: &[u8], x: u16) -> Record
     ensures { result ≡ record_n body.now x }
 {
     if x == 0 {
-        return nothing();
+        return Record::default();
     }
     let end = record::SIZE * (x as usize);
     if body.len() < end {
-        return part_record(body, x);
+        return part_at(body, x - 1);
     }
-    let at = end - record::SIZE;
-    let slot = &body[at..end];
-    Record {
-        key: fields::get_u64(slot, record::KEY),
-        stamp: fields::get_u32(slot, record::STAMP),
-        start: fields::get_u32(slot, record::NAME_START),
-        len: fields::get_u16(slot, record::NAME_LEN),
-        tree: fields::get_u8(slot, record::TREE),
-    }
-}
-
-// Writes a record's own fields into slot x, field by field: for a slot that the body may have in part
-// only.
-fn part_fill(body: &mut [u8], x: u16, v: Record)
-    requires { 0 < x }
-    ensures { body.new ≡ fill_n body.old x v }
-{
-    let at = record::SIZE * (x as usize - 1);
-    fields::put_u64(body, at + record::KEY, v.key);
-    fields::put_u8(body, at + record::TREE, v.tree);
-    fields::put_u32(body, at + record::STAMP, v.stamp);
-    fields::put_u32(body, at + record::NAME_START, v.start);
-    fields::put_u16(body, at + record::NAME_LEN, v.len);
+    Record::read(&body[end - record::SIZE..end], 0)
 }
 
 // Writes a record's own fields into slot x. Its links are left.
@@ -86,19 +80,14 @@ pub fn fill(body: &mut [u8], x: u16, v: Record)
     }
     let end = record::SIZE * (x as usize);
     if body.len() < end {
-        part_fill(body, x, v);
+        v.write(body, x - 1);
         return;
     }
-    let at = end - record::SIZE;
-    let slot = &mut body[at..end];
-    fields::put_u64(slot, record::KEY, v.key);
-    fields::put_u8(slot, record::TREE, v.tree);
-    fields::put_u32(slot, record::STAMP, v.stamp);
-    fields::put_u32(slot, record::NAME_START, v.start);
-    fields::put_u16(slot, record::NAME_LEN, v.len);
+    v.write(&mut body[end - record::SIZE..end], 0);
 }
 
 // Zeroes the 32 bytes of slot x.
+#[tactic(auto, unfolding(crate::specs::Record::clear_n))]
 pub fn clear(body: &mut [u8], x: u16)
     ensures { body.new ≡ clear_n body.old x }
 {
@@ -108,16 +97,15 @@ pub fn clear(body: &mut [u8], x: u16)
     fields::zero_out(body, record::SIZE * (x as usize - 1), record::SIZE);
 }
 
-// The lowest free slot above `from` and up to n, 0 for none.
+// The lowest free slot above `from` and up to n, 0 for none, as a slot's number is in the pool's bytes. By number and
+// not over rows: a row that the body has in part only reads as free, and rows would leave it out.
 pub fn lowest(body: &[u8], from: u16, n: u16) -> u16
     ensures { result ≡ lowest_n (n - from) body.now from }
 {
-    let mut at = from;
-    while at < n {
-        if fields::get_u8(body, record::SIZE * (at as usize) + record::TREE) == 0 {
+    for at in from..n {
+        if fields::get::<u8>(body, record::SIZE * (at as usize) + record::TREE) == 0 {
             return at + 1;
         }
-        at += 1;
     }
     0
 }

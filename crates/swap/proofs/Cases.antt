@@ -1,8 +1,5 @@
 -- Two small removals in the Rust's way, computed: the neighbour is a direct child in the one and stands deeper in the other. Assumes nothing.
-use mathlib.Core.List.{List}
-use mathlib.Core.Path.{◌≡◌, refl}
-use Prim.Native.Nat.{ℕ}
-use lib.ListN.{replicate}
+use Rattle.std.proofs.Common.{◌≡◌, ℕ, List, replicate, refl}
 use Rattle.fields.specs.Part.{part, splice}
 use Rattle.fields.specs.Number.{value, digits, get_le, put_le}
 use Rattle.avl.specs.Tree.{left, right, even, heavy, Tree, leaf, node, single}

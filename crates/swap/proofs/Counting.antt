@@ -1,15 +1,11 @@
 -- The climb of `_remove` neither reads nor changes the count: lowered before or after, it is the same. Assumes nothing.
-use mathlib.Core.Bool.{Bool, true, false, cond, not, ◌||◌}
-use mathlib.Core.List.{List}
-use mathlib.Core.Path.{◌≡◌, refl, ◌∙◌, ap}
-use Prim.Native.Nat.{ℕ, zero, suc}
-use lib.Dec.{eqb, eqb-suc-zero}
+use Rattle.std.proofs.Common.{◌≡◌, ℕ, zero, suc, Bool, true, false, cond, not, ◌||◌, eqb, List, refl, ap, ◌∙◌}
+use Rattle.std.proofs.Math.Dec.{eqb-suc-zero}
 use Rattle.avl.specs.Tree.{Dir, flip, to_balance}
 use Rattle.tree.specs.Node.{child, balance, parent, get_n, put_n, side_n}
-use Rattle.tree.specs.Rotate.{Store, rooted, point_n, hang_n, single_n, double_n, rotated_to, rotate_n}
+use Rattle.tree.specs.Rotate.{Store, Rotated, rooted, point_n, hang_n, single_n, double_n, rotated_to, rotate_n}
 use Rattle.tree.specs.Remove.{shrink_n}
 use Rattle.tree.specs.declared.node.AvlTree.{AvlTree}
-use Rattle.tree.specs.declared.rotate.Rotated.{Rotated}
 use Rattle.swap.specs.Rust.{fewer}
 
 -- a store whose tree has one record less

@@ -1,16 +1,12 @@
 -- A record with two children, on records that hold a tree: the slots that are stored to differ, and so the Rust's swap and the code's way leave the same
 -- bytes and the same tree by value. Assumes nothing.
-use mathlib.Core.List.{List}
-use mathlib.Core.Path.{◌≡◌, refl, sym, ◌∙◌, ap, subst}
-use native.Mathlib.Omega.{arith}
-use Prim.Native.Nat.{ℕ, ◌+◌, ◌*◌, ◌≤◌}
-use lib.Dec.{eqb}
+use Rattle.std.proofs.Common.{◌≡◌, ℕ, ◌+◌, ◌*◌, ◌≤◌, eqb, List, sym, refl, ap, ◌∙◌, subst, arith}
 use Rattle.avl.specs.Tree.{Dir, flip, pick, Bal, code, Tree, leaf, node, branch, top, height}
 use Rattle.avl.specs.Way.{Way, root, step, plug, above, depth}
 use Rattle.avl.specs.Edit.{end, taken}
 use Rattle.avl.proofs.Sides.{flip_flip, top_branch, node_branch, Parts, bare, parts, apart as by_parts}
 use Rattle.avl.proofs.Removal.{end_plug, bottom_branch}
-use Rattle.tree.specs.Node.{way, child, parent, put_n}
+use Rattle.tree.specs.Node.{right_if, child, parent, put_n}
 use Rattle.tree.specs.Walk.{bottom_n}
 use Rattle.tree.specs.Remove.{remove2_n}
 use Rattle.tree.specs.Held.{write, over, one, times, room, Roomy}
@@ -48,7 +44,7 @@ top_in (node l s b r) h = omega (arith, here s)
 -- ---- the neighbour n, of balance c and with the one part w, on the way `sub` in the part of s on side d
 
 module _ {N : ℕ} (k : ℕ) (d : Dir) (s : ℕ) (b : Bal) (z : Tree) (p : Way) (n : ℕ) (c : Bal) (w : Tree) (m : List ℕ) (roomy : Roomy N m)
-    (side : way (eqb (code b) 1) ≡ d) where
+    (side : right_if (eqb (code b) 1) ≡ d) where
   abbrev last : Tree
   last = branch (flip d) leaf n c w
 
@@ -196,7 +192,7 @@ module _ {N : ℕ} (k : ℕ) (d : Dir) (s : ℕ) (b : Bal) (z : Tree) (p : Way) 
 
 -- ---- a record with two parts
 
-module _ {N : ℕ} (k : ℕ) (d : Dir) (s : ℕ) (b : Bal) (z : Tree) (p : Way) (m : List ℕ) (roomy : Roomy N m) (side : way (eqb (code b) 1) ≡ d) where
+module _ {N : ℕ} (k : ℕ) (d : Dir) (s : ℕ) (b : Bal) (z : Tree) (p : Way) (m : List ℕ) (roomy : Roomy N m) (side : right_if (eqb (code b) 1) ≡ d) where
   two_parts : {a : Tree} → Parts (flip d) a → (top a ≡ 0 → ⊥) → (top z ≡ 0 → ⊥) → height (plug p (branch d a s b z)) ≤ k → Placed N p (branch d a s b z)
       → (t : AvlTree) (e : Dir) → let o = at p (branch d a s b z) m in rust_remove2 k o t s (above p) e ≡ lessened (remove2_n k o t s (above p) e)
   unfolding plug depth

@@ -1,10 +1,6 @@
 -- `_remove` in all its cases, in the Rust's way and in the code's, on records that hold a tree; and where in a tree a record stands. Assumes nothing.
-use mathlib.Core.List.{List}
-use mathlib.Core.Path.{◌≡◌, refl, sym, ◌∙◌, ap, subst}
-use native.Mathlib.Omega.{arith}
-use Prim.Native.Nat.{ℕ, ◌≤◌}
-use lib.Dec.{eqb}
-use borrow.Author.Tests.{eqb-true, eqb-false}
+use Rattle.std.proofs.Common.{◌≡◌, ℕ, ◌≤◌, eqb, List, sym, refl, ap, ◌∙◌, subst, arith, eqb-true}
+use Rattle.std.proofs.lemmas.Bool.{eqb-false}
 use Rattle.avl.specs.Tree.{Dir, left, right, Bal, Tree, leaf, node, branch, height, Balanced}
 use Rattle.avl.specs.Way.{Way, step, plug, above}
 use Rattle.avl.specs.Edit.{remove}

@@ -1,8 +1,6 @@
 -- The theorem: the Rust's removal and ours leave the same links and balances, root and count, on all records that hold a tree. specs/Claim has its
 -- words, specs/Rust the Rust's way. Assumes nothing.
-use mathlib.Core.List.{List, ◌++◌}
-use mathlib.Core.Path.{◌≡◌, sym, ◌∙◌, subst}
-use Prim.Native.Nat.{ℕ, ◌≤◌}
+use Rattle.std.proofs.Common.{◌≡◌, ℕ, ◌≤◌, List, ◌++◌, sym, ◌∙◌, subst}
 use Rattle.avl.specs.Tree.{Tree, height, Balanced, node}
 use Rattle.avl.specs.Links.{Links}
 use Rattle.avl.specs.Way.{root, plug}

@@ -1,9 +1,6 @@
 -- A tree of slots from 1 to N, each once, has at most N records; so, balanced, it has at most as many levels as our loops take turns. Assumes nothing.
-use mathlib.Core.Path.{◌≡◌, refl, ap}
-use native.Mathlib.Omega.{arith}
-use Prim.Native.Nat.{ℕ, zero, suc, ◌+◌, ◌≤◌}
-use lib.Dec.{eqb}
-use borrow.Author.Tests.{eqb-false}
+use Rattle.std.proofs.Common.{◌≡◌, ℕ, zero, suc, ◌+◌, ◌≤◌, eqb, refl, ap, arith}
+use Rattle.std.proofs.lemmas.Bool.{eqb-false}
 use Rattle.avl.specs.Tree.{Bal, Tree, leaf, node, height, size, Balanced}
 use Rattle.avl.proofs.Height.{levels_14}
 use Rattle.tree.specs.Walk.{levels}

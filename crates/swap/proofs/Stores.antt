@@ -1,11 +1,7 @@
 -- The Rust's stores of `_remove`, in its order, and those of the code leave the same bytes: on any records, where the slots that are stored to
 -- differ as those of a tree do. Assumes nothing.
-use mathlib.Core.Bool.{Bool, true, false}
-use mathlib.Core.List.{List}
-use mathlib.Core.Path.{◌≡◌, refl, sym, ◌∙◌, ap, subst}
-use Prim.Native.Nat.{ℕ}
-use lib.Dec.{eqb}
-use borrow.Author.Tests.{eqb-true, eqb-false}
+use Rattle.std.proofs.Common.{◌≡◌, ℕ, Bool, true, false, eqb, List, sym, refl, ap, ◌∙◌, subst, eqb-true}
+use Rattle.std.proofs.lemmas.Bool.{eqb-false}
 use Rattle.avl.specs.Tree.{Dir, left, right, flip}
 use Rattle.tree.specs.Node.{Field, child, parent, balance, put_n, detach_n}
 use Rattle.tree.specs.Held.{write}

@@ -1,13 +1,9 @@
 -- `_remove` of a record with two children, in the Rust's way and in the code's: on records of which the links read as those of a tree do, both
 -- leave the same bytes and the same tree by value. Assumes nothing.
-use mathlib.Core.Bool.{cond, not}
-use mathlib.Core.List.{List}
-use mathlib.Core.Path.{◌≡◌, refl, sym, ◌∙◌, ap, subst}
-use Prim.Native.Nat.{ℕ, zero, suc, ◌*◌, ◌≤◌, ◌<◌}
-use lib.Dec.{eqb, eqb-suc-zero}
-use borrow.Author.Tests.{eq-eqb, ne_eqb}
+use Rattle.std.proofs.Common.{◌≡◌, ℕ, zero, suc, ◌*◌, ◌<◌, ◌≤◌, cond, not, eqb, List, sym, refl, ap, ◌∙◌, subst, eq-eqb, ne_eqb}
+use Rattle.std.proofs.Math.Dec.{eqb-suc-zero}
 use Rattle.avl.specs.Tree.{Dir, left, right, flip}
-use Rattle.tree.specs.Node.{Field, way, child, parent, balance, get_n, put_n, put_both, side_of, side_n, detach_n}
+use Rattle.tree.specs.Node.{Field, right_if, child, parent, balance, get_n, put_n, put_both, side_of, side_n, detach_n}
 use Rattle.tree.specs.Walk.{bottom_n}
 use Rattle.tree.specs.Rotate.{rooted, point_n, hang_n}
 use Rattle.tree.specs.Remove.{shrink_n, remove2_n}
@@ -70,7 +66,7 @@ unfolding direct_n put_both
 direct_turn m n x d p f g = simp (f, g) refl
 
 swap2_turn : (k : ℕ) (m : List ℕ) (t : AvlTree) (x p : ℕ) (e d : Dir) {b c n i : ℕ} {ie : Dir} {m₁ : List ℕ} {t₁ : AvlTree}
-    → get_n m x balance ≡ b → way (eqb b 1) ≡ d → get_n m x (child d) ≡ c → bottom_n k m c (flip d) ≡ n → point_n m t n p e ≡ (m₁, t₁)
+    → get_n m x balance ≡ b → right_if (eqb b 1) ≡ d → get_n m x (child d) ≡ c → bottom_n k m c (flip d) ≡ n → point_n m t n p e ≡ (m₁, t₁)
     → get_n m₁ n parent ≡ i → side_n m₁ i n ≡ ie
     → rust_remove2 k m t x p e ≡ cond (not (eqb n c)) (leave_n k (deep_n m₁ n x d (get_n m x (child left)) (get_n m x (child right)) i ie) t₁ x i ie)
     (leave_n k (direct_n m₁ n x d p) t₁ x n d)
@@ -82,7 +78,7 @@ swap2_turn k m t x p e d q₁ q₂ q₃ q₄ q₅ q₆ q₇ = simp (q₁, q₂, 
 -- x, below p, of balance b, has the children c on side d and o; its neighbour n there, below i on side ie, has the child w
 pub record Reads (k : ℕ) (m : List ℕ) (x p : ℕ) (d : Dir) (b c o n i : ℕ) (ie : Dir) (w : ℕ) : Type 0 where
   pub bal : get_n m x balance ≡ b
-  pub side : way (eqb b 1) ≡ d
+  pub side : right_if (eqb b 1) ≡ d
   pub near : get_n m x (child d) ≡ c
   pub far : get_n m x (child (flip d)) ≡ o
   pub up : get_n m x parent ≡ p

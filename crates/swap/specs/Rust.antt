@@ -5,7 +5,7 @@
 -- above, as the Rust does where a pointer has no spare bits. Assumes nothing.
 use Rattle.std.specs.Prelude.{cond, not, ◌||◌, List, ℕ, eqb}
 use Rattle.avl.specs.Tree.{Dir, left, right, flip}
-use Rattle.tree.specs.Node.{way, child, parent, balance, get_n, put_n, put_both, side_n, detach_n}
+use Rattle.tree.specs.Node.{right_if, child, parent, balance, get_n, put_n, put_both, side_n, detach_n}
 use Rattle.tree.specs.Walk.{bottom_n}
 use Rattle.tree.specs.Rotate.{Store, point_n, hang_n}
 use Rattle.tree.specs.Remove.{shrink_n, less_n}
@@ -52,7 +52,7 @@ unfoldable pub rust_remove2 : ℕ → List ℕ → AvlTree → ℕ → ℕ → D
 rust_remove2 k m t x p e =
     let l = get_n m x (child left) in
     let r = get_n m x (child right) in
-    let d = way (eqb (get_n m x balance) 1) in
+    let d = right_if (eqb (get_n m x balance) 1) in
     let c = get_n m x (child d) in
     let n = bottom_n k m c (flip d) in
     let o = point_n m t n p e in
@@ -70,7 +70,7 @@ rust_remove k m t x =
     let r = get_n m x (child right) in
     let p = get_n m x parent in
     let e = side_n m p x in
-    let o = hang_n m t (get_n m x (child (way (not (eqb r 0))))) p e in
+    let o = hang_n m t (get_n m x (child (right_if (not (eqb r 0))))) p e in
     let few = leave_n k o.0 o.1 x p e in
     let both = rust_remove2 k m t x p e in
     cond (eqb l 0 || eqb r 0) few both

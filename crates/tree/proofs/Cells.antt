@@ -1,6 +1,6 @@
 -- The laws of a record's fields in record bytes: all that the laws above need to know of bytes. Assumes nothing.
 use Rattle.std.proofs.Common.{◌≡◌, ℕ, zero, suc, ◌+◌, ◌-◌, ◌*◌, ◌%◌, ◌^◌, ◌<◌, ◌≤◌, cond, eqb, List, length, sym, refl, ap, ◌∙◌, arith}
-use lib.Dec.{eqb-suc-zero}
+use Rattle.std.proofs.Math.Dec.{eqb-suc-zero}
 use Rattle.fields.proofs.Parts.{Apart, before, after, within?}
 use Rattle.fields.proofs.Numbers.{get_put_same, get_put_other, put_put_same, put_put_other}
 use Rattle.avl.specs.Tree.{left, right}

@@ -7,12 +7,11 @@ use Rattle.avl.proofs.Sides.{facing, flip_flip, top_branch, branch_flip}
 use Rattle.avl.proofs.Lists.{rotate_list}
 use Rattle.avl.proofs.Balance.{Sized, Fit, flat, taller, shorter, Cut, split, cut, Higher, Lower, less}
 use Rattle.tree.specs.Node.{parent, balance, get_n, put_n, side_n}
-use Rattle.tree.specs.Rotate.{rotate_n}
+use Rattle.tree.specs.Rotate.{Rotated, rotate_n}
 use Rattle.tree.specs.Insert.{grow_n}
 use Rattle.tree.specs.Remove.{shrink_n}
 use Rattle.tree.specs.Held.{Roomy, tree_of}
 use Rattle.tree.specs.declared.node.AvlTree.{AvlTree}
-use Rattle.tree.specs.declared.rotate.Rotated.{Rotated}
 use Rattle.tree.proofs.Ways.{at, Placed, placed_up, at_up}
 use Rattle.tree.proofs.Places.{top_up, top_bal, placed_bal, set_bal, hung, side_top, pointed}
 use Rattle.tree.proofs.Rotating.{Turns, over_level, over_outer, over_inner, stops, rotate_at}

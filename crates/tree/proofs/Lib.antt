@@ -1,10 +1,6 @@
-pub mod Leaf
 pub mod OneToOne
 pub mod Loops
 pub mod NodeSteps
-pub mod RotateSteps
-pub mod ClimbSteps
-pub mod RemoveSteps
 pub mod Cells
 pub mod Links
 pub mod Reading

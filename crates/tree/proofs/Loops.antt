@@ -1,76 +1,42 @@
--- One turn of each loop: what is left to do gives `z` before it and after it. Assumes nothing.
-use Rattle.std.proofs.Common.{◌≡◌, ℕ, suc, ◌+◌, ◌-◌, ◌<◌, ◌≤◌, Bool, true, false, cond, not, ltb, List, length, sym, refl, ap, ◌∙◌, add-one, arith, le-ltb, lt-ltb, eq-eqb, ne_eqb, eqb-true, leb-false, leb-true}
-use mathlib.Core.Bool.{false≢true}
+-- Loops over the levels of a tree, two sides told apart, and one turn of the search. Assumes nothing.
+use Rattle.std.proofs.Common.{◌≡◌, ℕ, suc, ◌+◌, ◌-◌, ◌<◌, ◌≤◌, true, cond, not, ltb, List, sym, refl, ap, ◌∙◌, add-one, arith, le-ltb, lt-ltb, eq-eqb, ne_eqb, eqb-true, leb-false, leb-true}
+use Rattle.std.proofs.Math.Dec.{compare_is_eq, is_le}
+use Rattle.std.proofs.lemmas.Bool.{false≢true}
 use Prim.Native.Nat.{compare, Ordering}
-use lib.Dec.{compare_is_eq, is_le}
-use Rattle.avl.specs.Tree.{Dir, left, right, alike}
+use Rattle.avl.specs.Tree.{Dir, left, right, alike, pick}
 use Rattle.avl.specs.Search.{three}
-use Rattle.tree.specs.Node.{way, child, parent, get_n, node_n, side_n}
-use Rattle.tree.specs.Walk.{levels, bottom_n, up_n}
+use Rattle.tree.specs.Node.{way, child, get_n, node_n}
+use Rattle.tree.specs.Walk.{levels}
 use Rattle.tree.specs.Search.{Ending, seek_n}
-use Rattle.tree.specs.Rotate.{Store}
-use Rattle.tree.specs.declared.node.AvlTree.{AvlTree}
+use Rattle.tree.specs.declared.dir.Dir.{Dir as CodeDir}
+use Rattle.tree.specs.declared.dir.Dir.TheVariants.{Left, Right}
+use Rattle.tree.specs.declared.spot.Spot.{Spot}
 use Rattle.tree.specs.declared.node.Node.{Node}
 
-above_0 : (k : ℕ) → (k ≡ 0 → ⊥) → k ≡ suc (k - 1)
-above_0 k n = omega arith
+-- ---- loops over the levels of a tree: after i of them
 
--- ---- the climbs after an insertion and a removal
+-- so many are left
+pub one_more : (i : ℕ) → i < levels → levels - i ≡ suc (levels - (i + 1))
+one_more i h = omega arith
 
--- what is left of a climb gives z, and the records are as many bytes as at first
-pub record Climbing (climb : ℕ → List ℕ → AvlTree → ℕ → Dir → Store) (m₀ : List ℕ) (z : Store) (m : List ℕ) (t : AvlTree) (x : ℕ) (d : Dir)
-    (k : ℕ) : Type 0 where
-  pub same : climb k m t x d ≡ z
-  pub size : length m ≡ length m₀
+-- none is left
+pub none_left : (i : ℕ) → levels ≤ i → levels - i ≡ 0
+none_left i h = omega arith
 
-module _ {climb : ℕ → List ℕ → AvlTree → ℕ → Dir → Store} {m₀ : List ℕ} {z : Store} {m : List ℕ} {t : AvlTree} {x : ℕ} {d : Dir} {k : ℕ}
-    (s : Climbing climb m₀ z m t x d k) where
-  pub climb_end : k ≡ 0 → climb 0 m t x d ≡ (m, t) → ◌≡◌ {A = Store} (m, t) z
-  climb_end h e = sym e ∙ rw h at s.same
+-- ---- sides
 
-  again : (k ≡ 0 → ⊥) → climb (suc (k - 1)) m t x d ≡ z
-  again n = rw (above_0 k n) at s.same
+-- two sides of the code told apart
+pub same_side : {A : Type 0} (d e : CodeDir) (a c : A) → e ≡ d → alike (way d) (way e) a c ≡ a
+same_side Left Left a c h = refl
+same_side Left Right a c h = cc
+same_side Right Left a c h = cc
+same_side Right Right a c h = refl
 
-  module _ (n : k ≡ 0 → ⊥) {m' : List ℕ} {t' : AvlTree} {done : Bool} (x' : ℕ) (d' : Dir)
-      (turn : (j : ℕ) → climb (suc j) m t x d ≡ cond done (m', t') (climb j m' t' x' d')) where
-    pub climb_stop : done ≡ true → ◌≡◌ {A = Store} (m', t') z
-    climb_stop h = sym (rw h at (turn (k - 1))) ∙ again n
-
-    pub climb_on : done ≡ false → length m' ≡ length m → Climbing climb m₀ z m' t' x' d' (k - 1)
-    climb_on h l = record { same = sym (rw h at (turn (k - 1))) ∙ again n; size = l ∙ s.size }
-
--- ---- walks
-
-module _ (m : List ℕ) (s : ℕ) (d : Dir) (k : ℕ) (n : k ≡ 0 → ⊥) {c : ℕ} (e : c ≡ get_n m s (child d)) {z : ℕ} where
-  pub bottom_stop : c ≡ 0 → bottom_n k m s d ≡ z → s ≡ z
-  unfolding bottom_n
-  bottom_stop h inv = simp (← e, eq-eqb c 0 h) at (rw (above_0 k n) at inv)
-
-  pub bottom_on : (c ≡ 0 → ⊥) → bottom_n k m s d ≡ z → bottom_n (k - 1) m c d ≡ z
-  unfolding bottom_n
-  bottom_on h inv = simp (← e, ne_eqb c 0 h) at (rw (above_0 k n) at inv)
-
-alike_is : {A : Type 0} (d e : Dir) (a c : A) → alike d e a c ≡ cond (not (alike d e true false)) c a
-alike_is left left a c = refl
-alike_is left right a c = refl
-alike_is right left a c = refl
-alike_is right right a c = refl
-
-module _ (m : List ℕ) (p : ℕ) (e d : Dir) (k : ℕ) (n : k ≡ 0 → ⊥) {z : ℕ} where
-  pub up_none : p ≡ 0 → up_n k m p e d ≡ z → 0 ≡ z
-  unfolding up_n
-  up_none h inv = simp (eq-eqb p 0 h) at (rw (above_0 k n) at inv)
-
-  module _ (h : p ≡ 0 → ⊥) {a : Bool} (f : a ≡ alike d e true false) where
-    up_open : up_n k m p e d ≡ z → cond (not a) p (up_n (k - 1) m (get_n m p parent) (side_n m (get_n m p parent) p) d) ≡ z
-    unfolding up_n
-    up_open inv = rw f (sym (alike_is d e _ _) ∙ simp (ne_eqb p 0 h) at (rw (above_0 k n) at inv))
-
-    pub up_here : a ≡ false → up_n k m p e d ≡ z → p ≡ z
-    up_here g inv = rw g at (up_open inv)
-
-    pub up_on : a ≡ true → {q : ℕ} → q ≡ get_n m p parent → {s : Dir} → s ≡ side_n m q p → up_n k m p e d ≡ z → up_n (k - 1) m q s d ≡ z
-    up_on g i j inv = simp (j, i) (rw g at (up_open inv))
+pub other_side : {A : Type 0} (d e : CodeDir) (a c : A) → (e ≡ d → ⊥) → alike (way d) (way e) a c ≡ c
+other_side Left Left a c h = absurd (h refl)
+other_side Left Right a c h = refl
+other_side Right Left a c h = refl
+other_side Right Right a c h = absurd (h refl)
 
 -- ---- the search
 
@@ -88,36 +54,32 @@ three_ne {A} m k a b c z = go (compare m k) refl
     go Ordering.eq e = absurd (z (eqb-true m k (ap compare_is_eq e)))
     go Ordering.gt e = let h : k < m = leb-false m k (ap is_le e) in simp (le-ltb m k (omega arith))
 
--- what is left of a search ends at z, in at most so many comparisons as a tree has levels
-pub record Seeking (m : List ℕ) (key : ℕ) (z : Ending) (x p : ℕ) (e : Dir) (n : ℕ) : Type 0 where
-  pub same : seek_n (levels - n) m key x p e n ≡ z
-  pub most : n ≤ levels
-
-module _ {m : List ℕ} {key : ℕ} {z : Ending} {x p : ℕ} {e : Dir} {n : ℕ} (s : Seeking m key z x p e n) where
-  pub seek_end : n ≡ levels → record { slot = 0; above = p; side = e; compared = n } ≡ z
+-- what is left of a search, after i comparisons, ends at z
+module _ (m : List ℕ) (key x : ℕ) (at : Spot) (i : ℕ) {z : Ending} (inv : seek_n (levels - i) m key x at.parent (way at.side) i ≡ z) where
+  pub seek_end : i ≤ levels → levels ≤ i → record { slot = 0; above = at.parent; side = way at.side; compared = levels } ≡ z
   unfolding seek_n
-  seek_end v = let q : levels - n ≡ 0 = omega arith in rw q at s.same
+  seek_end l h = let e : i ≡ levels = omega arith in rw (none_left i h, e) at inv
 
-  module _ (v : n ≡ levels → ⊥) where
-    turn : seek_n (suc (levels - suc n)) m key x p e n ≡ z
-    turn = let q : levels - n ≡ suc (levels - suc n) = omega (arith, s.most) in rw q at s.same
+  module _ (n : i < levels) where
+    turn : seek_n (suc (levels - suc i)) m key x at.parent (way at.side) i ≡ z
+    turn = let q : levels - i ≡ suc (levels - suc i) = omega arith in rw q at inv
 
-    pub seek_none : x ≡ 0 → record { slot = 0; above = p; side = e; compared = n } ≡ z
+    pub seek_none : x ≡ 0 → record { slot = 0; above = at.parent; side = way at.side; compared = i } ≡ z
     unfolding seek_n
     seek_none h = simp (eq-eqb x 0 h) at turn
 
     module _ (h : x ≡ 0 → ⊥) {y : Node} (f : y ≡ node_n m x) where
       here : Ending
-      here = record { slot = x; above = p; side = e; compared = suc n }
+      here = record { slot = x; above = at.parent; side = way at.side; compared = suc i }
 
       below : Dir → Ending
-      below d = seek_n (levels - suc n) m key (get_n m x (child d)) x d (suc n)
+      below d = seek_n (levels - suc i) m key (get_n m x (child d)) x d (suc i)
 
       compared : three (compare key y.key) (below left) here (below right) ≡ z
       unfolding seek_n node_n here below
       compared = rw (ap (λ (u : Node). u.key) f) (simp (ne_eqb x 0 h) at turn)
 
-      pub seek_here : key ≡ y.key → record { slot = x; above = p; side = e; compared = n + 1 } ≡ z
+      pub seek_here : key ≡ y.key → record { slot = x; above = at.parent; side = way at.side; compared = i + 1 } ≡ z
       unfolding here
       seek_here g = rw add-one (sym (three_eq (compare key y.key) (below left) here (below right) (eq-eqb key y.key g)) ∙ compared)
 
@@ -125,12 +87,13 @@ module _ {m : List ℕ} {key : ℕ} {z : Ending} {x p : ℕ} {e : Dir} {n : ℕ}
         chosen : cond (not (ltb key y.key)) (below right) (below left) ≡ z
         chosen = sym (three_ne key y.key (below left) here (below right) g) ∙ compared
 
-        pub seek_right : not (ltb key y.key) ≡ true → {c : ℕ} → c ≡ y.right → Seeking m key z c x (way (not (ltb key y.key))) (n + 1)
+        -- on the side that the code takes
+        pub seek_left : key < y.key → {s : CodeDir} → s ≡ Left → {c : ℕ} → c ≡ pick (way s) y.left y.right
+            → seek_n (levels - (i + 1)) m key c x (way s) (i + 1) ≡ z
         unfolding below node_n
-        seek_right t i =
-            record { same = rw (add-one, t, i, ap (λ (u : Node). u.right) f) (rw t at chosen); most = omega (arith, s.most) }
+        seek_left t e k = rw (add-one, k, e, ap (λ (u : Node). u.left) f) (simp (lt-ltb key y.key t) at chosen)
 
-        pub seek_left : not (ltb key y.key) ≡ false → {c : ℕ} → c ≡ y.left → Seeking m key z c x (way (not (ltb key y.key))) (n + 1)
+        pub seek_right : y.key ≤ key → {s : CodeDir} → s ≡ Right → {c : ℕ} → c ≡ pick (way s) y.left y.right
+            → seek_n (levels - (i + 1)) m key c x (way s) (i + 1) ≡ z
         unfolding below node_n
-        seek_left t i =
-            record { same = rw (add-one, t, i, ap (λ (u : Node). u.left) f) (rw t at chosen); most = omega (arith, s.most) }
+        seek_right t e k = rw (add-one, k, e, ap (λ (u : Node). u.right) f) (simp (le-ltb key y.key t) at chosen)

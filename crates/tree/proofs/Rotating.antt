@@ -5,10 +5,9 @@ use Rattle.avl.specs.Way.{Way, step, above}
 use Rattle.avl.specs.Rotate.{Climb, stop, on, tree, turn, rotate, child_bal, node_bal}
 use Rattle.avl.proofs.Sides.{facing, top_branch, rotate_branch, double_branch, View, neither, this, other, view}
 use Rattle.tree.specs.Node.{child, balance, get_n}
-use Rattle.tree.specs.Rotate.{xor, single_n, double_n, rotated_to, rotate_n}
+use Rattle.tree.specs.Rotate.{Rotated, xor, single_n, double_n, rotated_to, rotate_n}
 use Rattle.tree.specs.Held.{Roomy}
 use Rattle.tree.specs.declared.node.AvlTree.{AvlTree}
-use Rattle.tree.specs.declared.rotate.Rotated.{Rotated}
 use Rattle.tree.proofs.Ways.{at, Placed, placed_near, at_up}
 use Rattle.tree.proofs.Places.{top_near, top_far, top_bal, hung, pointed}
 use Rattle.tree.proofs.Turning.{single_at, double_at}

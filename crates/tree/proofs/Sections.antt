@@ -1,7 +1,7 @@
 -- The records of a pool as bytes: a store into the bytes is a change of one slot's links, and a tree written over them gives its links to its
 -- slots. Assumes nothing.
 use Rattle.std.proofs.Common.{◌≡◌, ℕ, zero, suc, ◌+◌, ◌-◌, ◌*◌, ◌^◌, ◌<◌, ◌≤◌, Bool, true, false, cond, eqb, List, ◌++◌, length, sym, refl, ap, ◌∙◌, ap₂, append_assoc, arith, length-append, eq-eqb, ne_eqb, eqb-true}
-use lib.Seq.{take-length}
+use Rattle.std.proofs.Math.Seq.{take-length}
 use Rattle.fields.specs.Part.{part, splice}
 use Rattle.fields.specs.Number.{value, digits, get_le, put_le}
 use Rattle.fields.proofs.Parts.{part_in, part_append_left, part_append_right, splice_append_left, splice_append_right, splice_all}

@@ -1,6 +1,6 @@
 -- A place in a tree that records hold: the links of the way above it, and of the tree there. Assumes nothing.
 use Rattle.std.proofs.Common.{◌≡◌, ℕ, ◌+◌, ◌≤◌, Bool, true, false, ◌&&◌, eqb, leb, List, length, sym, refl, ap, ◌∙◌, subst, arith, eq-eqb, leb-true}
-use mathlib.Core.Bool.{and-eq-true_iff}
+use Rattle.std.proofs.Math.Bool.{and-eq-true_iff}
 use Rattle.avl.specs.Tree.{Dir, flip, Bal, code, Tree, branch, top}
 use Rattle.avl.specs.Way.{Way, root, step, plug, above}
 use Rattle.avl.proofs.Sides.{branch_flip}

@@ -1,6 +1,6 @@
 -- A model: what the code computes. No door's promise cites it, and it need not be believed.
 -- `_insert` and `_insert_here` on record bytes and a tree. Assumes nothing.
-use Rattle.std.specs.Prelude.{ℕ, zero, suc, ◌+◌, cond, List, ◌==◌}
+use Rattle.std.specs.Prelude.{◌≡◌, refl, ℕ, zero, suc, ◌+◌, cond, List, ◌==◌}
 use Rattle.avl.specs.Tree.{Dir, flip, to_balance}
 use Rattle.tree.specs.Node.{child, parent, balance, get_n, put_n, put_both, side_n}
 use Rattle.tree.specs.Walk.{bottom_n}
@@ -17,6 +17,11 @@ grow_n (suc k) m t x d =
     let up = grow_n k n t p (side_n n p x) in
     let o = rotate_n m t x d p (side_n m p x) in
     cond (b == 0) (cond (p == 0) (n, t) up) (cond (b == to_balance d) (o.0, o.1.tree) (put_n m x balance 0, t))
+
+-- in no turn it changes nothing
+pub grow_still : (m : List ℕ) (t : AvlTree) (x : ℕ) (d : Dir) → grow_n 0 m t x d ≡ (m, t)
+unfolding grow_n
+grow_still m t x d = refl
 
 -- counts stay within two bytes
 unfoldable pub more_n : ℕ → ℕ

@@ -2,6 +2,7 @@ pub mod Node
 pub mod Walk
 pub mod Search
 pub mod Rotate
+pub mod Climb
 pub mod Insert
 pub mod Remove
 pub mod Held

@@ -4,12 +4,19 @@
 use Rattle.std.specs.Prelude.{ℕ, ◌+◌, ◌-◌, ◌*◌, Bool, true, false, cond, List, ◌==◌}
 use Rattle.fields.specs.Number.{get_le, put_le}
 use Rattle.avl.specs.Tree.{Dir, left, right, pick}
+use Rattle.tree.specs.declared.dir.Dir.{Dir as CodeDir}
+use Rattle.tree.specs.declared.dir.Dir.TheVariants.{Left, Right}
 use Rattle.tree.specs.declared.node.Node.{Node}
 
--- the side that the code's `Dir` stands for: false is left
-abbrev pub way : Bool → Dir
-way true = right
-way false = left
+-- the side that the code's `Dir` stands for
+abbrev pub way : CodeDir → Dir
+way Left = left
+way Right = right
+
+-- the side by a test: right where it holds
+abbrev pub right_if : Bool → Dir
+right_if true = right
+right_if false = left
 
 -- the fields that hold a tree together
 pub data Field : Type 0 where
@@ -46,7 +53,7 @@ put_both m s d c = put_n (put_n m c parent s) s (child d) c
 
 -- parent_direction: the side on which x hangs below p, whose right child is r; left below none
 unfoldable pub side_of : ℕ → ℕ → ℕ → Dir
-side_of p x r = cond (p == 0) left (way (x == r))
+side_of p x r = cond (p == 0) left (right_if (x == r))
 
 unfoldable pub side_n : List ℕ → ℕ → ℕ → Dir
 side_n m p x = side_of p x (get_n m p (child right))

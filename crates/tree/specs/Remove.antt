@@ -1,9 +1,9 @@
 -- A model: what the code computes. No door's promise cites it, and it need not be believed.
 -- `_remove` and `_post_remove` on record bytes and a tree. A record with two children: its neighbour is taken out first and then put in its
 -- place, which leaves the links that the Rust's swap leaves. Assumes nothing.
-use Rattle.std.specs.Prelude.{ℕ, zero, suc, ◌-◌, cond, List, ◌==◌}
+use Rattle.std.specs.Prelude.{◌≡◌, refl, ℕ, zero, suc, ◌-◌, cond, List, ◌==◌}
 use Rattle.avl.specs.Tree.{Dir, left, right, flip, to_balance}
-use Rattle.tree.specs.Node.{way, child, parent, balance, get_n, put_n, side_n, detach_n}
+use Rattle.tree.specs.Node.{right_if, child, parent, balance, get_n, put_n, side_n, detach_n}
 use Rattle.tree.specs.Walk.{bottom_n}
 use Rattle.tree.specs.Rotate.{Store, point_n, hang_n, rotate_n}
 use Rattle.tree.specs.declared.node.AvlTree.{AvlTree}
@@ -21,6 +21,11 @@ shrink_n (suc k) m t x d =
     let turned = cond o.1.level (o.0, o.1.tree) on in
     let level = cond (p == 0) (n, t) up in
     cond (b == to_balance (flip d)) turned (cond (b == 0) (put_n m x balance (to_balance (flip d)), t) level)
+
+-- in no turn it changes nothing
+pub shrink_still : (m : List ℕ) (t : AvlTree) (x : ℕ) (d : Dir) → shrink_n 0 m t x d ≡ (m, t)
+unfolding shrink_n
+shrink_still m t x d = refl
 
 -- x, below p on side e, has at most the child w
 unfoldable pub remove1_n : ℕ → List ℕ → AvlTree → ℕ → ℕ → Dir → ℕ → Store
@@ -43,7 +48,7 @@ replace_n m t n x d p e b =
 unfoldable pub remove2_n : ℕ → List ℕ → AvlTree → ℕ → ℕ → Dir → Store
 remove2_n k m t x p e =
     let b = get_n m x balance in
-    let d = way (b == 1) in
+    let d = right_if (b == 1) in
     let n = bottom_n k m (get_n m x (child d)) (flip d) in
     let i = get_n m n parent in
     let ie = side_n m i n in

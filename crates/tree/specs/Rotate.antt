@@ -4,7 +4,6 @@ use Rattle.std.specs.Prelude.{ℕ, Bool, cond, not, ◌||◌, List, ◌==◌, bi
 use Rattle.avl.specs.Tree.{Dir, flip, to_balance}
 use Rattle.tree.specs.Node.{child, parent, balance, get_n, put_n, put_both}
 use Rattle.tree.specs.declared.node.AvlTree.{AvlTree}
-use Rattle.tree.specs.declared.rotate.Rotated.{Rotated}
 
 -- the record bytes, and the tree that is worked on
 abbrev pub Store : Type 0
@@ -43,6 +42,11 @@ double_n m t x d p e c g =
     let m₂ = put_n (put_both m₁ c (flip d) u) c balance (cond (b == to_balance (flip d)) (to_balance d) 0) in
     let m₃ = put_both (put_n m₂ g balance 0) g d c in
     hang_n (put_both m₃ g (flip d) x) t g p e
+
+-- what a rotation gives: the tree, and whether a climb stops here
+pub record Rotated : Type 0 where
+  pub tree : AvlTree
+  pub level : Bool
 
 unfoldable pub rotated_to : Store → Bool → List ℕ × Rotated
 rotated_to o level = (o.0, record { tree = o.1; level = level })

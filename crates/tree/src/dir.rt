@@ -1,42 +1,48 @@
 // A side of a record.
-ghost use Rattle.std.specs.Prelude.{◌≡◌, true, false};
-ghost use Rattle.avl.specs.Tree.{flip, alike, to_balance};
+ghost use Rattle.std.specs.Prelude.{◌≡◌};
+ghost use Rattle.avl.specs.Tree.{flip, to_balance};
 ghost use Rattle.tree.specs.Node.{way, offset, child};
 
 use format::{balance, link};
 
-// false is left
-#[derive(Clone, Copy)]
-pub struct Dir(pub bool);
+#[derive(Clone, Copy, PartialEq, Eq)]
+pub enum Dir {
+    Left,
+    Right,
+}
 
 impl Dir {
-    pub const LEFT: Dir = Dir(false);
+    // The Rust's names of the two, which the direction owns.
+    pub const LEFT: Dir = Dir::Left;
 
-    pub const RIGHT: Dir = Dir(true);
+    pub const RIGHT: Dir = Dir::Right;
 
     pub fn reverse(self) -> Dir
-        ensures { way result.0 ≡ flip (way self.0) }
+        ensures { way result ≡ flip (way self) }
     {
-        Dir(!self.0)
+        match self {
+            Dir::Left => Dir::Right,
+            Dir::Right => Dir::Left,
+        }
     }
 
+    // The balance of a record whose higher side this is.
     pub fn to_balance(self) -> u8
-        ensures { result ≡ to_balance (way self.0) }
+        ensures { result ≡ to_balance (way self) }
     {
-        balance::LEFT - (self.0 as u8)
-    }
-
-    // Whether the two are the same side.
-    pub fn is(self, d: Dir) -> bool
-        ensures { result ≡ alike (way self.0) (way d.0) true false }
-    {
-        if self.0 { d.0 } else { !d.0 }
+        match self {
+            Dir::Left => balance::LEFT,
+            Dir::Right => balance::RIGHT,
+        }
     }
 
     // Where a record has its child on this side.
     pub fn field(self) -> u8
-        ensures { result ≡ offset (child (way self.0)) }
+        ensures { result ≡ offset (child (way self)) }
     {
-        if self.0 { link::RIGHT } else { link::LEFT }
+        match self {
+            Dir::Left => link::LEFT,
+            Dir::Right => link::RIGHT,
+        }
     }
 }

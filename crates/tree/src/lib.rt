@@ -9,7 +9,7 @@
 //
 // | Rust                                | here                         | difference                                        |
 // |-------------------------------------|------------------------------|---------------------------------------------------|
-// | DIR_LEFT, DIR_RIGHT                 | dir::Dir::LEFT, RIGHT        | associated constants                              |
+// | DIR_LEFT, DIR_RIGHT                 | dir::Dir::LEFT, RIGHT        | constants of an enum, its cases Left and Right    |
 // | Dir::reverse, to_balance            | dir::Dir::reverse, to_balance| none                                              |
 // | Dir::to_usize                       | dir::Dir::field              | the place of the child in its record              |
 // | AvlNode::get_child, set_child       | node::get_child, set_child   | by slot                                           |
@@ -32,13 +32,14 @@
 // |                                     | or remove                    |                                                   |
 // | next, prev                          | walk::walk_dir               | to the right, to the left                         |
 // | len, is_empty                       | node::AvlTree                | its count                                         |
-// | rotate                              | rotate::rotate               | single and double apart; `inv_bal & -flag` as     |
-// |                                     |                              | `inv_bal & (0 - flag)`, wrapping                  |
-// | _insert                             | insert::insert               | the loop's body is `grow_step`                    |
+// | rotate                              | rotate::rotate               | single and double apart; `inv_bal & -flag` as an  |
+// |                                     |                              | `if`, which compiles to no branch                 |
+// | _insert                             | insert::insert               | the loop is `climb::climb`, its body that of      |
+// |                                     |                              | `Grown::turn`                                     |
 // | _insert_here                        | insert::insert_here          | finds its place with `beside`                     |
 // | _remove                             | remove::remove               | finds parent and side itself; `remove1` for at    |
 // |                                     |                              | most one child, `remove2` for two                 |
-// | _post_remove                        | remove::post_remove          | the loop's body is `shrink_step`                  |
+// | _post_remove                        | climb::climb                 | the loop's body is that of `Shrunk::turn`         |
 #![tactic(auto)]
 
 pub mod climb;
@@ -48,4 +49,5 @@ pub mod node;
 pub mod remove;
 pub mod rotate;
 pub mod search;
+pub mod spot;
 pub mod walk;

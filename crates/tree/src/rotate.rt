@@ -19,81 +19,57 @@
 //
 // After a single rotation over an even c the part is as high as before, and a climb stops there; it can be met
 // in a removal alone. After every other the part is one lower than it had become.
-ghost use Rattle.std.specs.Prelude.{◌≡◌, ◌||◌, if◌then◌else◌};
+#![tactic(auto, unfolding(crate::specs::Rotate::rooted, crate::specs::Rotate::point_n, crate::specs::Rotate::hang_n, crate::specs::Rotate::single_n, crate::specs::Rotate::double_n, crate::specs::Rotate::xor, crate::specs::Rotate::rotate_n, crate::specs::Rotate::rotated_to))]
+
+ghost use Rattle.std.specs.Prelude.{◌≡◌};
 ghost use Rattle.tree.specs.Node.{way};
+ghost use Rattle.tree.specs.Climb.{turned};
 ghost use Rattle.tree.specs.Rotate.{point_n, hang_n, single_n, double_n, rotate_n};
 
+use super::climb::Step;
 use super::dir::Dir;
 use super::node::{
     AvlTree, get_balance, get_child, set_balance, set_child, set_child2, set_parent,
 };
+use super::spot::Spot;
 use format::balance;
 
-// What a rotation gives: the tree, and whether a climb stops here, the height being as it was or this
-// the root.
-#[derive(Clone, Copy)]
-pub struct Rotated {
-    pub tree: AvlTree,
-    pub level: bool,
-}
-
-// x with the flag, else 0.
-fn mask(x: u8, flag: bool) -> u8
-    ensures { result ≡ (if flag then x else 0) }
+// The field that points at a place: a child of its record, or the root where it is below none.
+pub fn point(nodes: &mut [u8], t: AvlTree, x: u16, at: Spot) -> AvlTree
+    ensures { (nodes.new, result) ≡ point_n nodes.old t x at.parent (way at.side) }
 {
-    x & std::num::wrapping_sub_u8(0, flag as u8)
-}
-
-fn pick(flag: bool, x: u8) -> u8
-    ensures { result ≡ (if flag then x else 0) }
-{
-    if flag { x } else { 0 }
-}
-
-fn either(a: bool, b: bool) -> bool
-    ensures { result ≡ (a || b) }
-{
-    if a { true } else { b }
-}
-
-// The field that points at a place: the child of p on side e, or the root where p is 0.
-pub fn point(nodes: &mut [u8], t: AvlTree, x: u16, p: u16, e: Dir) -> AvlTree
-    ensures { (nodes.new, result) ≡ point_n nodes.old t x p (way e.0) }
-{
-    if p == 0 {
-        return AvlTree {
-            root: x,
-            count: t.count,
-        };
+    if at.parent == 0 {
+        return AvlTree { root: x, ..t };
     }
-    set_child(nodes, p, e, x);
+    set_child(nodes, at.parent, at.side, x);
     t
 }
 
 // x hung where a part was.
-pub fn hang(nodes: &mut [u8], t: AvlTree, x: u16, p: u16, e: Dir) -> AvlTree
-    ensures { (nodes.new, result) ≡ hang_n nodes.old t x p (way e.0) }
+pub fn hang(nodes: &mut [u8], t: AvlTree, x: u16, at: Spot) -> AvlTree
+    ensures { (nodes.new, result) ≡ hang_n nodes.old t x at.parent (way at.side) }
 {
-    set_parent(nodes, x, p, e);
-    point(nodes, t, x, p, e)
+    set_parent(nodes, x, at.parent, at.side);
+    point(nodes, t, x, at)
 }
 
-fn single(nodes: &mut [u8], t: AvlTree, x: u16, d: Dir, p: u16, e: Dir, c: u16, b: u8) -> AvlTree
-    ensures { (nodes.new, result) ≡ single_n nodes.old t x (way d.0) p (way e.0) c b }
+fn single(nodes: &mut [u8], t: AvlTree, x: u16, d: Dir, at: Spot, c: u16, b: u8) -> AvlTree
+    ensures { (nodes.new, result) ≡ single_n nodes.old t x (way d) at.parent (way at.side) c b }
 {
     let inv = d.reverse();
     let dir_bal = d.to_balance();
     let inv_bal = inv.to_balance();
     let w = get_child(nodes, c, inv);
+    let c_bal = if b == dir_bal { balance::EVEN } else { inv_bal };
     set_balance(nodes, x, b ^ dir_bal);
-    set_balance(nodes, c, mask(inv_bal, b != dir_bal));
+    set_balance(nodes, c, c_bal);
     set_child2(nodes, c, inv, x);
     set_child2(nodes, x, d, w);
-    hang(nodes, t, c, p, e)
+    hang(nodes, t, c, at)
 }
 
-fn double(nodes: &mut [u8], t: AvlTree, x: u16, d: Dir, p: u16, e: Dir, c: u16, g: u16) -> AvlTree
-    ensures { (nodes.new, result) ≡ double_n nodes.old t x (way d.0) p (way e.0) c g }
+fn double(nodes: &mut [u8], t: AvlTree, x: u16, d: Dir, at: Spot, c: u16, g: u16) -> AvlTree
+    ensures { (nodes.new, result) ≡ double_n nodes.old t x (way d) at.parent (way at.side) c g }
 {
     let inv = d.reverse();
     let dir_bal = d.to_balance();
@@ -101,32 +77,42 @@ fn double(nodes: &mut [u8], t: AvlTree, x: u16, d: Dir, p: u16, e: Dir, c: u16, 
     let g_left = get_child(nodes, g, d);
     let g_right = get_child(nodes, g, inv);
     let g_bal = get_balance(nodes, g);
+    let x_bal = if g_bal == dir_bal {
+        inv_bal
+    } else {
+        balance::EVEN
+    };
+    let c_bal = if g_bal == inv_bal {
+        dir_bal
+    } else {
+        balance::EVEN
+    };
     set_child2(nodes, x, d, g_right);
-    set_balance(nodes, x, pick(g_bal == dir_bal, inv_bal));
+    set_balance(nodes, x, x_bal);
     set_child2(nodes, c, inv, g_left);
-    set_balance(nodes, c, pick(g_bal == inv_bal, dir_bal));
+    set_balance(nodes, c, c_bal);
     set_balance(nodes, g, balance::EVEN);
     set_child2(nodes, g, d, c);
     set_child2(nodes, g, inv, x);
-    hang(nodes, t, g, p, e)
+    hang(nodes, t, g, at)
 }
 
-// The record x is two higher on side d, and hangs below p on side e.
-pub fn rotate(nodes: &mut [u8], t: AvlTree, x: u16, d: Dir, p: u16, e: Dir) -> Rotated
-    ensures { (nodes.new, result) ≡ rotate_n nodes.old t x (way d.0) p (way e.0) }
+// The record x is two higher on side d, and hangs at a place. The climb is done if the height is as it was, or if
+// that place is the root.
+pub fn rotate(nodes: &mut [u8], t: AvlTree, x: u16, d: Dir, at: Spot) -> Step
+    ensures { (nodes.new, result) ≡ turned (rotate_n nodes.old t x (way d) at.parent (way at.side)) at }
 {
     let inv = d.reverse();
     let c = get_child(nodes, x, d);
     let b = get_balance(nodes, c);
     if b == inv.to_balance() {
         let g = get_child(nodes, c, inv);
-        let tree = double(nodes, t, x, d, p, e, c, g);
-        return Rotated {
-            tree,
-            level: p == 0,
-        };
+        let tree = double(nodes, t, x, d, at, c, g);
+        return Step::to(tree, at);
     }
-    let level = either(b != d.to_balance(), p == 0);
-    let tree = single(nodes, t, x, d, p, e, c, b);
-    Rotated { tree, level }
+    let tree = single(nodes, t, x, d, at, c, b);
+    if b == d.to_balance() {
+        return Step::to(tree, at);
+    }
+    Step::Done(tree)
 }

@@ -1,7 +1,5 @@
 -- Determinism of the C functions that pack two numbers into one; `zt_create` and `zt_check` promise what the doors do. Assumes nothing.
-use mathlib.Core.List.{List}
-use mathlib.Core.Path.{◌≡◌, ap}
-use Prim.Native.Nat.{ℕ}
+use Rattle.std.proofs.Common.{◌≡◌, ℕ, List, ap}
 use Rattle.meaning.proofs.Determined.{determined}
 use Rattle.zimatuno.specs.Abi.{batch_in_c, name_in_c}
 

@@ -1,10 +1,5 @@
 -- What a C program reads back out of the numbers that the doors return. Assumes nothing.
-use mathlib.Core.List.{List}
-use mathlib.Core.Path.{◌≡◌, ap₂, ◌∙◌}
-use Prim.Native.Nat.{ℕ, ◌*◌, ◌/◌, ◌%◌, ◌≤◌}
-use native.Mathlib.Omega.{arith}
-use lib.Dec.{eqb, ltb}
-use lib.ListN.{length, take, drop}
+use Rattle.std.proofs.Common.{◌≡◌, ℕ, ◌*◌, ◌/◌, ◌%◌, ◌≤◌, eqb, ltb, List, length, take, drop, ◌∙◌, ap₂, arith}
 use Rattle.meaning.specs.Sound.{sound}
 use Rattle.meaning.specs.Doors.{n_commands, batch_ok, batch_refusal, carried_out, batch, name, place_of}
 use Rattle.meaning.proofs.Facts.{test}

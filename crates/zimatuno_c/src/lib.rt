@@ -1,5 +1,7 @@
 // Zimatuno for programs in C or Rust: the static library whose functions include/zimatuno.h names. Each is the
-// function of that name of the crate zimatuno, with the same promise. A slice is a pointer and then a length.
+// function of that name of the crate zimatuno, with the same promise. A slice is a pointer and then a length. The
+// four stand twice since C needs exported names and a static library, which no crate can stand on: the theorems on
+// them are of zimatuno.
 #![tactic(auto)]
 
 ghost use Rattle.std.specs.Prelude.{◌≡◌};

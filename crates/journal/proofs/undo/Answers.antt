@@ -1,21 +1,10 @@
--- `undo`: what is left to undo gives what all the changes give. Its measure is how many are left.
-use borrow.Author.Rules.{rules}
-use mathlib.Core.Path.{refl}
-use native.Mathlib.Omega.{arith}
+-- `undo`: the changes that are left give what all of them give.
+use Rattle.std.proofs.Common.{◌≡◌, length, rules}
 use Rattle.journal.proofs.JournalSteps.{undo_on, undo_end}
 use Rattle.journal.proofs.undo.Goals as goal
 
-pub loop-i-init : goal.loop-i-init
-loop-i-init c = record { most = search rules; same = refl; size = refl }
+pub loop-e-preserved : goal.loop-e-preserved
+loop-e-preserved c = undo_on _ _ _ _ c.in-Some.ensures.items c.undo_one.ensures c.loop-e.invariant
 
-pub bounds-es-i : goal.bounds-es-i
-bounds-es-i c = omega (arith, c.loop-i.invariant.most, c.loop-i-test.true)
-
-pub loop-i-preserved : goal.loop-i-preserved
-loop-i-preserved c = undo_on c.loop-i.invariant c.loop-i-test.true c.undo_one-h.ensures c.undo_one-h.auto.body
-
-pub shape_of-body : goal.shape_of-body
-shape_of-body c = c.loop-i.invariant.size
-
-pub returns : goal.returns
-returns c = undo_end c.loop-i.invariant c.loop-i-test.false
+pub returns-clause-undone : goal.returns-clause-undone
+returns-clause-undone c = let none : length c.loop-e.journal.items ≡ 0 = search rules in undo_end _ _ _ none c.loop-e.invariant

@@ -1,5 +1,5 @@
 -- `create`: refused by the sizes, or the header stored into zeros.
-use native.Mathlib.Omega.{arith}
+use Rattle.std.proofs.Common.{arith}
 use Rattle.create.proofs.CreateSteps.{limits, refused, created}
 use Rattle.create.proofs.create.create.Goals as goal
 

@@ -3,5 +3,5 @@ use Rattle.cursor.proofs.CommandSteps.{command_read}
 use Rattle.cursor.proofs.command.read_command.Goals as goal
 
 pub returns : goal.returns
-returns c = command_read _ _ c.requires c.get_u64.ensures c.get_u32.ensures c.get_u32-2.ensures c.get_u16.ensures
-    c.get_u16-2.ensures c.get_u8.ensures c.get_u8-2.ensures
+returns c = command_read _ _ c.requires c.get.ensures c.get-2.ensures c.get-3.ensures c.get-4.ensures
+    c.get-5.ensures c.get-6.ensures c.get-7.ensures

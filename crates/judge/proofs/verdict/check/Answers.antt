@@ -1,12 +1,11 @@
--- `check`: 0 exactly if the pool is sound.
-use mathlib.Core.Path.{refl, sym, ◌∙◌}
-use Rattle.meaning.specs.Doors.{check}
+-- `check`: the number of the judgement.
+use Rattle.std.proofs.lemmas.Result.{err_from_is_err_and}
+use Rattle.judge.proofs.CheckAnswers.{judged_number}
 use Rattle.judge.proofs.verdict.check.Goals as goal
 
-pub returns-then-is_sound : goal.returns-then-is_sound
-unfolding check
-returns-then-is_sound c = simp (sym c.is_sound.ensures ∙ c.if-is_sound.true) refl
+pub returns-in_err-judge : goal.returns-in_err-judge
+returns-in_err-judge c =
+    let p = err_from_is_err_and c.from_residual.result c.from_residual.ensures.1 in rw (p.1, p.2) (judged_number _ c.in_err-judge.ensures)
 
 pub returns : goal.returns
-unfolding check
-returns c = simp (sym c.is_sound.ensures ∙ c.if-is_sound.false) refl
+returns c = judged_number _ c.in_ok-judge.ensures

@@ -1,9 +1,13 @@
 -- `higher`: its two answers, by the balance.
+use Rattle.std.proofs.Common.{ap, ◌∙◌}
+use Rattle.fields.specs.Number.{get_le}
 use Rattle.judge.proofs.WalkSteps.{higher_right, higher_left}
+use Rattle.judge.proofs.walk.higher.Goals.{then-get-eq-RIGHT, else-get-eq-RIGHT}
 use Rattle.judge.proofs.walk.higher.Goals as goal
 
-pub returns-then-get_u8-eq1 : goal.returns-then-get_u8-eq1
-returns-then-get_u8-eq1 c = higher_right _ _ c.requires.0 c.requires.1 c.row-own.ensures c.get_u8.ensures c.if-get_u8-eq1.true c.get_u16.ensures
-
 pub returns : goal.returns
-returns c = higher_left _ _ c.requires.0 c.requires.1 c.row-own.ensures c.get_u8.ensures c.if-get_u8-eq1.false c.get_u16-2.ensures
+returns c =
+    elim c.if-get-eq-RIGHT.branch [
+      | then-get-eq-RIGHT w ↦ higher_right _ c.get.ensures w.if-get-eq-RIGHT.true (c.get-2.ensures ∙ ap (get_le 2 c.args.row.now) w.link-is)
+      | else-get-eq-RIGHT w ↦ higher_left _ c.get.ensures w.if-get-eq-RIGHT.false (c.get-2.ensures ∙ ap (get_le 2 c.args.row.now) w.link-is)
+    ]

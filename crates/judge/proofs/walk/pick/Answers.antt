@@ -1,6 +1,6 @@
 -- `pick`: its two answers, by the link.
 use Rattle.judge.specs.Check.{pick_n}
-use borrow.Author.Tests.{eq-eqb, ne_eqb}
+use Rattle.std.proofs.Common.{eq-eqb, ne_eqb}
 use Rattle.judge.proofs.walk.pick.Goals as goal
 
 pub returns-then-x-eq0 : goal.returns-then-x-eq0

@@ -3,4 +3,4 @@ use Rattle.name.proofs.NameSteps.{match_row}
 use Rattle.name.proofs.name.is_match.Goals as goal
 
 pub returns : goal.returns
-returns c = match_row _ _ _ c.get_u8-tree.ensures c.get_u32.ensures c.both.ensures c.both-2.ensures
+returns c = match_row _ _ _ c.get-tree.ensures c.get.ensures

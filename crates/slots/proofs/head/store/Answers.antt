@@ -1,13 +1,10 @@
 -- `store`: the three numbers and the eight entries in a row.
-use mathlib.Core.Path.{ap, ◌∙◌}
-use lib.ListN.{length}
-use Rattle.slots.proofs.HeadSteps.{store_steps, length_store}
+use Rattle.std.proofs.Common.{◌∙◌, arith}
+use Rattle.slots.proofs.HeadSteps.{put_next, store_end}
 use Rattle.slots.proofs.head.store.Goals as goal
 
-pub returns : goal.returns
-returns c = store_steps _ _ c.put_u16.ensures c.put_u32.ensures c.put_u32-2.ensures c.put_entry.ensures c.put_entry-2.ensures
-    c.put_entry-3.ensures c.put_entry-4.ensures c.put_entry-5.ensures c.put_entry-6.ensures c.put_entry-7.ensures
-    c.put_entry-8.ensures
+pub loop-i-preserved : goal.loop-i-preserved
+loop-i-preserved c = put_next _ _ _ _ (omega arith) c.put_entry.ensures ∙ c.loop-i.invariant
 
-pub shape_of-pool : goal.shape_of-pool
-shape_of-pool c = ap length (returns c) ∙ length_store _ _
+pub returns : goal.returns
+returns c = store_end _ _ _ (omega arith) c.loop-i-test.false c.put.ensures c.put-2.ensures c.put-3.ensures c.loop-i.invariant

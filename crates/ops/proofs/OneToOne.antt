@@ -78,76 +78,46 @@ op_of n =
     cond (eqb n 28) (kind.Settle settling.Commit) (
     (kind.Settle settling.Reset)))))))))))))))))))))))))))))
 
-op_back : (op : Op) → op_of (op_number op) ≡ op
-op_back (kind.Alter altering.Add) = refl
-op_back (kind.Show showing.Get) = refl
-op_back (kind.Alter altering.RemoveByKey) = refl
-op_back (kind.Alter altering.Remove) = refl
-op_back (kind.Show (showing.Beside Right)) = refl
-op_back (kind.Show (showing.Beside Left)) = refl
-op_back (kind.Show (showing.End Left)) = refl
-op_back (kind.Show (showing.End Right)) = refl
-op_back (kind.Show showing.Entry) = refl
-op_back (kind.Show (showing.EndEntry Left)) = refl
-op_back (kind.Show (showing.EndEntry Right)) = refl
-op_back (kind.Show (showing.Peek Right)) = refl
-op_back (kind.Show (showing.Peek Left)) = refl
-op_back (kind.Show (showing.Move Right)) = refl
-op_back (kind.Show (showing.Move Left)) = refl
-op_back (kind.Alter (altering.InsertBeside Left)) = refl
-op_back (kind.Alter (altering.InsertBeside Right)) = refl
-op_back (kind.Alter (altering.InsertAndMove Left)) = refl
-op_back (kind.Alter (altering.InsertAndMove Right)) = refl
-op_back (kind.Alter altering.InsertNode) = refl
-op_back (kind.Alter altering.RemoveHere) = refl
-op_back (kind.Alter (altering.RemoveBeside Left)) = refl
-op_back (kind.Alter (altering.RemoveBeside Right)) = refl
-op_back (kind.Alter (altering.InsertEnd Right)) = refl
-op_back (kind.Alter (altering.InsertEnd Left)) = refl
-op_back (kind.Settle settling.Mark) = refl
-op_back (kind.Settle settling.Rollback) = refl
-op_back (kind.Settle settling.Commit) = refl
-op_back (kind.Settle settling.Reset) = refl
+-- the number of an op gives it back, and is in their range
+op_back : (op : Op) → (op_of (op_number op) ≡ op) × (within 1 last_op (op_number op) ≡ true)
+unfolding within
+op_back (kind.Alter altering.Add) = (refl, refl)
+op_back (kind.Show showing.Get) = (refl, refl)
+op_back (kind.Alter altering.RemoveByKey) = (refl, refl)
+op_back (kind.Alter altering.Remove) = (refl, refl)
+op_back (kind.Show (showing.Beside Right)) = (refl, refl)
+op_back (kind.Show (showing.Beside Left)) = (refl, refl)
+op_back (kind.Show (showing.End Left)) = (refl, refl)
+op_back (kind.Show (showing.End Right)) = (refl, refl)
+op_back (kind.Show showing.Entry) = (refl, refl)
+op_back (kind.Show (showing.EndEntry Left)) = (refl, refl)
+op_back (kind.Show (showing.EndEntry Right)) = (refl, refl)
+op_back (kind.Show (showing.Peek Right)) = (refl, refl)
+op_back (kind.Show (showing.Peek Left)) = (refl, refl)
+op_back (kind.Show (showing.Move Right)) = (refl, refl)
+op_back (kind.Show (showing.Move Left)) = (refl, refl)
+op_back (kind.Alter (altering.InsertBeside Left)) = (refl, refl)
+op_back (kind.Alter (altering.InsertBeside Right)) = (refl, refl)
+op_back (kind.Alter (altering.InsertAndMove Left)) = (refl, refl)
+op_back (kind.Alter (altering.InsertAndMove Right)) = (refl, refl)
+op_back (kind.Alter altering.InsertNode) = (refl, refl)
+op_back (kind.Alter altering.RemoveHere) = (refl, refl)
+op_back (kind.Alter (altering.RemoveBeside Left)) = (refl, refl)
+op_back (kind.Alter (altering.RemoveBeside Right)) = (refl, refl)
+op_back (kind.Alter (altering.InsertEnd Right)) = (refl, refl)
+op_back (kind.Alter (altering.InsertEnd Left)) = (refl, refl)
+op_back (kind.Settle settling.Mark) = (refl, refl)
+op_back (kind.Settle settling.Rollback) = (refl, refl)
+op_back (kind.Settle settling.Commit) = (refl, refl)
+op_back (kind.Settle settling.Reset) = (refl, refl)
 
 -- Two ops of one number are equal.
 pub op_determined : (a b : Op) → op_number a ≡ op_number b → a ≡ b
-op_determined a b same = sym (op_back a) ∙ ap op_of same ∙ op_back b
-
-known : (op : Op) → within 1 last_op (op_number op) ≡ true
-unfolding within
-known (kind.Alter altering.Add) = refl
-known (kind.Show showing.Get) = refl
-known (kind.Alter altering.RemoveByKey) = refl
-known (kind.Alter altering.Remove) = refl
-known (kind.Show (showing.Beside Right)) = refl
-known (kind.Show (showing.Beside Left)) = refl
-known (kind.Show (showing.End Left)) = refl
-known (kind.Show (showing.End Right)) = refl
-known (kind.Show showing.Entry) = refl
-known (kind.Show (showing.EndEntry Left)) = refl
-known (kind.Show (showing.EndEntry Right)) = refl
-known (kind.Show (showing.Peek Right)) = refl
-known (kind.Show (showing.Peek Left)) = refl
-known (kind.Show (showing.Move Right)) = refl
-known (kind.Show (showing.Move Left)) = refl
-known (kind.Alter (altering.InsertBeside Left)) = refl
-known (kind.Alter (altering.InsertBeside Right)) = refl
-known (kind.Alter (altering.InsertAndMove Left)) = refl
-known (kind.Alter (altering.InsertAndMove Right)) = refl
-known (kind.Alter altering.InsertNode) = refl
-known (kind.Alter altering.RemoveHere) = refl
-known (kind.Alter (altering.RemoveBeside Left)) = refl
-known (kind.Alter (altering.RemoveBeside Right)) = refl
-known (kind.Alter (altering.InsertEnd Right)) = refl
-known (kind.Alter (altering.InsertEnd Left)) = refl
-known (kind.Settle settling.Mark) = refl
-known (kind.Settle settling.Rollback) = refl
-known (kind.Settle settling.Commit) = refl
-known (kind.Settle settling.Reset) = refl
+op_determined a b same = sym (op_back a).0 ∙ ap op_of same ∙ (op_back b).0
 
 -- `Op::try_from`: two results that its promise allows for one number are equal.
 pub parses_determined : (n : ℕ) (r q : Result Op Refusal) → Parses n r → Parses n q → r ≡ q
 parses_determined n (Ok a) (Ok b) first second = ap (λ (op : Op). Ok op) (op_determined a b (first ∙ sym second))
-parses_determined n (Ok a) (Err why) first second = never (known a) (ap (within 1 last_op) first ∙ second.1)
-parses_determined n (Err why) (Ok b) first second = never (known b) (ap (within 1 last_op) second ∙ first.1)
+parses_determined n (Ok a) (Err why) first second = never ((op_back a).1) (ap (within 1 last_op) first ∙ second.1)
+parses_determined n (Err why) (Ok b) first second = never ((op_back b).1) (ap (within 1 last_op) second ∙ first.1)
 parses_determined n (Err why) (Err other) first second = ap (λ (a : Refusal). Err a) (first.0 ∙ sym second.0)

@@ -63,7 +63,7 @@ pub fn name(pool: &[u8], t: u8, x: u16, g: u32) -> &[u8]
     ensures { result.now ≡ name pool.now t x g }
 {
     let Some(Place { at, len }) = place_of(pool, t, x, g) else {
-        return &[];
+        return &pool[..0];
     };
     let start = at as usize;
     &pool[start..start + len as usize]

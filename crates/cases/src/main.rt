@@ -105,7 +105,7 @@ fn next_batch(p: &mut [u8], w: &mut [u8]) {
     let length = read::next::<u32>() as usize;
     let room = read::next::<u32>() as usize;
     let n = read::part(length, w);
-    let mut answers = space::all_of::<{ space::WIDE_ANSWERS }>(255);
+    let mut answers = space::marked_answers();
     let k = space::within(room, &answers);
     run_batch(p, &w[..n], &mut answers[..k]);
 }
@@ -128,7 +128,7 @@ fn next_name(p: &[u8]) {
 }
 
 fn print_listing(p: &[u8]) {
-    let mut text = space::all_of::<{ space::TEXT }>(0);
+    let mut text = space::text();
     let n = listing(p, &mut text);
     print::first(n, &text);
 }
@@ -177,7 +177,7 @@ fn run(space: &mut [u8], w: &mut [u8]) {
 }
 
 fn main() {
-    let mut space = space::all_of::<{ space::POOL }>(0);
-    let mut w = space::all_of::<{ space::INPUT }>(0);
+    let mut space = space::pool();
+    let mut w = space::input();
     run(&mut space, &mut w);
 }

@@ -7,13 +7,44 @@ use std::fmt::{Display, Formatter, Write};
 // The number of standard output.
 const STDOUT_FILENO: i32 = 1;
 
-// Standard output, as what values are formatted to.
-#[derive(Clone, Copy)]
-struct Output;
+// How many bytes wait to be written at most.
+const ROOM: usize = 1_024;
+
+// Standard output, as what values are formatted to. They come in pieces of a few bytes, down to single digits, so
+// the pieces wait here and go out together: a write costs far more than a copy.
+#[derive(Drop)]
+struct Output {
+    waiting: [u8; ROOM],
+    used: usize,
+}
+
+impl Output {
+    fn new() -> Self {
+        Output {
+            waiting: [0; ROOM],
+            used: 0,
+        }
+    }
+
+    // Writes what waits.
+    fn flush(&mut self) {
+        first(self.used, &self.waiting);
+        self.used = 0;
+    }
+}
 
 impl Write for Output {
     fn write_str(&mut self, s: &str) -> fmt::Result {
-        text(s.as_bytes());
+        let piece = s.as_bytes();
+        if ROOM.saturating_sub(self.used) < piece.len() {
+            self.flush();
+        }
+        if ROOM < piece.len() {
+            text(piece);
+        } else {
+            fields::copy_in(&mut self.waiting, self.used, piece);
+            self.used = self.used.saturating_add(piece.len());
+        }
         Ok(())
     }
 }
@@ -31,12 +62,16 @@ pub fn first(n: usize, b: &[u8]) {
 
 // A value, as it is displayed.
 pub fn value<D: Display + Drop>(shown: D) {
-    let _ = Output.write(shown);
+    let mut output = Output::new();
+    let _ = output.write(shown);
+    output.flush();
 }
 
 // The same on a line.
 pub fn line<D: Display + Drop>(shown: D) {
-    let _ = Output.writeln(shown);
+    let mut output = Output::new();
+    let _ = output.writeln(shown);
+    output.flush();
 }
 
 // Bytes that are displayed as two hexadecimal digits each.

@@ -1,13 +1,13 @@
 -- The laws of little-endian numbers, each once for every width: what a number reads as after a store, its bytes, its bound, and a number as two
 -- halves. Assumes nothing.
-use Rattle.std.proofs.Common.{◌≡◌, ℕ, zero, suc, ◌+◌, ◌*◌, ◌/◌, ◌%◌, ◌^◌, ◌<◌, ◌≤◌, Bool, true, false, ◌&&◌, eqb, List, [], ◌∷◌, ◌++◌, length, get_or, take, drop, set, sym, refl, ap, ◌∙◌, ap₂, mul-le-mul_right, mul_assoc, suc-mul, mul_comm, suc-add, pow-suc, add-one, arith, length-drop, take-append-drop, length-take, drop-cons, take-add, pow-add, eq-eqb, ne_eqb, eqb-true}
+use Rattle.std.proofs.Common.{◌≡◌, ℕ, zero, suc, ◌+◌, ◌*◌, ◌/◌, ◌%◌, ◌^◌, ◌<◌, ◌≤◌, Bool, true, false, ◌&&◌, eqb, List, [], ◌∷◌, ◌++◌, length, get_or, take, drop, set, sym, refl, ap, ◌∙◌, ap₂, mul-le-mul_right, mul_assoc, suc-mul, mul_comm, add_comm, suc-add, pow-suc, add-one, arith, length-drop, take-append-drop, length-take, drop-cons, take-add, pow-add, eq-eqb, ne_eqb, eqb-true}
 use Rattle.std.proofs.Math.Bool.{and-true, and_assoc}
-use Rattle.std.proofs.Math.Nat.{pow-succ', div-div-eq-div-mul, mod-add-div}
+use Rattle.std.proofs.Math.Nat.{pow-succ', div-div-eq-div-mul, mod-add-div, div-mul-le_self}
 use Rattle.std.proofs.Math.Seq.{take-length}
 use Rattle.std.proofs.lemmas.Bool.{eqb-false}
 use Rattle.std.proofs.lemmas.List.{set_split}
 use Rattle.std.specs.Int.Bits.{bit_or}
-use Rattle.std.specs.List.{fold}
+use Rattle.std.specs.List.{fold, list_all}
 use Rattle.std.specs.Simd.{first_chunks}
 use Rattle.fields.specs.Part.{part, splice, zeros}
 use Rattle.fields.specs.Number.{value, digits, get_le, put_le, Bytes, Loaded}
@@ -193,6 +193,26 @@ zeros_split bs =
     ap zeros (sym (take-append-drop n bs))
     ∙ zeros_append (take n bs) (drop n bs)
     ∙ ap (λ (t : Bool). t && zeros (drop n bs)) (sym (zeros_words (length bs / 8) 0 bs (omega arith)))
+
+-- the first k blocks of n bytes are all 0, one by one, exactly if their bytes are
+zeros_blocks : (n k : ℕ) (bs : List ℕ) → k * n ≤ length bs → list_all zeros (first_chunks n k bs) ≡ zeros (take (k * n) bs)
+unfolding zeros
+zeros_blocks n zero bs h = let none : 0 * n ≡ 0 = omega arith in sym (ap (λ (m : ℕ). zeros (take m bs)) none)
+zeros_blocks n (suc k) bs h =
+    let first = take n bs in
+    let later = take (k * n) (drop n bs) in
+    let more : suc k * n ≡ n + k * n = suc-mul k n ∙ add_comm (k * n) n in
+    ap (λ (t : Bool). zeros first && t) (zeros_blocks n k (drop n bs) (simp length-drop (omega (arith, h, more))))
+    ∙ sym (zeros_append first later)
+    ∙ ap zeros (sym (take-add n (k * n) bs) ∙ ap (λ (m : ℕ). take m bs) (sym more))
+
+-- bytes are all 0 exactly if those of each block are and the rest is
+pub zeros_by_blocks : (n : ℕ) (bs : List ℕ) → zeros bs ≡ (list_all zeros (first_chunks n (length bs / n) bs) && zeros (drop (length bs / n * n) bs))
+zeros_by_blocks n bs =
+    let m = length bs / n * n in
+    ap zeros (sym (take-append-drop m bs))
+    ∙ zeros_append (take m bs) (drop m bs)
+    ∙ ap (λ (t : Bool). t && zeros (drop m bs)) (sym (zeros_blocks n (length bs / n) bs (div-mul-le_self (length bs) n)))
 
 pub power_pos : (w : ℕ) → 0 < 256 ^ w
 power_pos zero = omega arith

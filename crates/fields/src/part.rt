@@ -37,8 +37,12 @@ pub fn zero_out(b: &mut [u8], at: usize, count: usize)
     }
 }
 
+// How many bytes are tested for zeros as a whole.
+const BLOCK: usize = 64;
+
 // Whether the bytes are all 0. Most are taken eight at a time as numbers, of which it asks what they have
 // set among them all: a run of zeros is read to its end in any case, and a test at each number costs more.
+#[inline(always)]
 fn are_zero(bytes: &[u8]) -> bool
     ensures { result ≡ zeros bytes.now }
 {
@@ -47,9 +51,27 @@ fn are_zero(bytes: &[u8]) -> bool
     set == 0 && rest.iter().all(|byte| *byte == 0)
 }
 
-// Whether the `count` bytes from `at` on are all 0.
+// The same block by block, up to the first that has a byte other than 0: what comes behind it costs nothing.
+fn each_is_zero(bytes: &[u8]) -> bool
+    ensures { result ≡ zeros bytes.now }
+{
+    let (blocks, rest) = bytes.as_chunks::<BLOCK>();
+    blocks.iter().all(|block| are_zero(block)) && are_zero(rest)
+}
+
+// Whether the `count` bytes from `at` on are all 0. Inlined, so that a part whose length the caller knows, as that
+// of a free record, is tested without a loop.
+#[inline(always)]
 pub fn all_zero(b: &[u8], at: usize, count: usize) -> bool
     ensures { result ≡ zeros (part b.now at count) }
 {
-    !within(b, at, count) || are_zero(&b[at..at + count])
+    if !within(b, at, count) {
+        return true;
+    }
+    let bytes = &b[at..at + count];
+    if count <= BLOCK {
+        are_zero(bytes)
+    } else {
+        each_is_zero(bytes)
+    }
 }

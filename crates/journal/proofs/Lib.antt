@@ -1,3 +1,5 @@
 pub mod JournalSteps
 pub mod Changes
+pub mod Packing
+pub mod OneToOne
 pub mod Unrolling

@@ -1,11 +1,11 @@
 -- A model: what the code computes. No door's promise cites it, and it need not be believed.
 -- The entries of a journal: what they stand for in `meaning`, and how they are undone on the body and the head. Assumes nothing.
-use Rattle.std.specs.Prelude.{List, [], ◌∷◌, ℕ, zero, suc, get_or}
+use Rattle.std.specs.Prelude.{true, false, cond, List, [], ◌∷◌, ℕ, zero, suc, get_or}
 use Rattle.avl.specs.Tree.{right}
 use Rattle.tree.specs.Search.{seek_n}
 use Rattle.meaning.specs.Pool.{Rec}
 use Rattle.meaning.specs.Change.{Change, added, removed}
-use Rattle.slots.specs.Record.{record_n}
+use Rattle.slots.specs.Record.{no_record, record_n}
 use Rattle.slots.specs.Head.{tree_n}
 use Rattle.slots.specs.Change.{Image, put_rec_n, drop_rec_n, cut_n}
 use Rattle.slots.specs.declared.head.Head.{Head}
@@ -13,14 +13,33 @@ use Rattle.slots.specs.declared.record.Record.{Record}
 use Rattle.journal.specs.declared.Entry.{Entry}
 use Rattle.journal.specs.declared.Noted.{Noted}
 use Rattle.journal.specs.declared.Noted.TheVariants.{Added, Removed}
+use Rattle.journal.specs.declared.Row.{Row}
 
--- what stands where a journal has no entry yet
+-- what stands where a journal has no entry yet: a removal with all fields 0, from slot 0
 abbrev pub no_entry : Entry
-no_entry = record { slot = 0; change = Added }
+no_entry = record { slot = 0; change = Removed no_record }
 
 -- what a contract sees of a journal: its changes in their order
 pub record Changes : Type 0 where
   pub items : List Entry
+
+-- ---- an entry as the array holds it
+
+-- what is noted of slot x; of an added record nothing but that
+abbrev pub packed_at : ℕ → Noted → Row
+packed_at x Added = record { key = 0; stamp = 0; start = 0; len = 0; slot = x; tree = 0; added = true; spare = 0 }
+packed_at x (Removed v) = record { key = v.key; stamp = v.stamp; start = v.start; len = v.len; slot = x; tree = v.tree; added = false; spare = 0 }
+
+abbrev pub packed : Entry → Row
+packed e = packed_at e.slot e.change
+
+-- the record whose removal it holds
+abbrev pub removed_in : Row → Record
+removed_in r = record { key = r.key; stamp = r.stamp; start = r.start; len = r.len; tree = r.tree }
+
+-- and back
+abbrev pub unpacked : Row → Entry
+unpacked r = record { slot = r.slot; change = cond r.added Added (Removed (removed_in r)) }
 
 -- ---- what entries stand for
 

@@ -6,9 +6,9 @@
 // mark of a pool of `meaning`, body and head are then those of its `rollback` (proofs/Unrolling.antt).
 #![tactic(auto)]
 
-ghost use Rattle.std.specs.Prelude.{◌≡◌, ◌<◌, ◌≤◌, [], ◌∷◌, ◌++◌, length, take, IfNone};
+ghost use Rattle.std.specs.Prelude.{◌≡◌, ◌<◌, ◌≤◌, [], ◌∷◌, ◌++◌, length, map, take, IfNone};
 ghost use Rattle.std.specs.Option.{option_to_list};
-ghost use Rattle.journal.specs.Journal.{Changes, undo_one_n, undo_n, roll_back_n};
+ghost use Rattle.journal.specs.Journal.{Changes, packed, unpacked, undo_one_n, undo_n, roll_back_n};
 
 use slots::change::{cut, drop_rec, put_rec};
 use slots::head::Head;
@@ -29,19 +29,85 @@ pub enum Noted {
     Removed(Record),
 }
 
+// An entry as the array holds it. What is cleared and copied as a whole has no padding, and an entry's enum has a tag
+// and padding beside its record: an array of entries would be larger by two thirds, and set entry by entry. Here the
+// fields stand side by side and fill the struct.
+#[derive(Clone, Copy, Default)]
+struct Row {
+    key: u64,
+    stamp: u32,
+    start: u32,
+    len: u16,
+    slot: u16,
+    tree: u8,
+    // false for a removal: what a new array is filled with is then all 0, and clears it by one call
+    added: bool,
+    // always 0: the last two bytes, which would be padding
+    spare: u16,
+}
+
+// The bytes of its fields, and no more.
+const _: () = prove!(size_of::<Row>() == 24);
+
+impl From<Entry> for Row {
+    ghost from_gives = { λ e row. row ≡ packed e };
+
+    fn from(e: Entry) -> Row {
+        match e.change {
+            Noted::Added => Row {
+                slot: e.slot,
+                added: true,
+                ..Row::default()
+            },
+            Noted::Removed(v) => Row {
+                key: v.key,
+                stamp: v.stamp,
+                start: v.start,
+                len: v.len,
+                slot: e.slot,
+                tree: v.tree,
+                added: false,
+                spare: 0,
+            },
+        }
+    }
+}
+
+impl From<Row> for Entry {
+    ghost from_gives = { λ row e. e ≡ unpacked row };
+
+    fn from(row: Row) -> Entry {
+        let change = if row.added {
+            Noted::Added
+        } else {
+            Noted::Removed(Record {
+                key: row.key,
+                stamp: row.stamp,
+                start: row.start,
+                len: row.len,
+                tree: row.tree,
+            })
+        };
+        Entry {
+            slot: row.slot,
+            change,
+        }
+    }
+}
+
 // The changes in their order, at most one for each command of a batch: the first `len` entries.
-// A struct of our own (fixed memory). Tried: with the kit's `ArrayVec`, which builds its array in a second one, the
-// stack is 8 kilobytes deeper than the README says and a batch 0.24 microseconds longer.
+// A struct of our own (fixed memory). Tried with entries that weren't packed: with the kit's `ArrayVec`, which builds
+// its array in a second one, the stack was deeper by that array and a batch 0.24 microseconds longer.
 #[derive(Drop)]
 pub struct Journal {
-    entries: [Entry; 256],
+    entries: [Row; 256],
     len: usize,
 }
 
 impl Model for Journal {
     ghost Value = { Changes };
 
-    ghost view = { λ j. record { items = take j.len j.entries } };
+    ghost view = { λ j. record { items = map unpacked (take j.len j.entries) } };
 
     ghost invariant = { λ j. j.len ≤ 256 };
 }
@@ -50,12 +116,8 @@ impl Journal {
     pub fn new() -> Self
         ensures { result.items ≡ [] }
     {
-        let none = Entry {
-            slot: 0,
-            change: Noted::Added,
-        };
         Journal {
-            entries: [none; 256],
+            entries: [Row::default(); 256],
             len: 0,
         }
     }
@@ -65,7 +127,7 @@ impl Journal {
         requires { length self.old.items < 256 }
         ensures items { self.new.items ≡ self.old.items ++ e ∷ [] }
     {
-        self.entries[self.len] = e;
+        self.entries[self.len] = Row::from(e);
         self.len += 1;
     }
 
@@ -78,7 +140,7 @@ impl Journal {
             return None;
         }
         self.len -= 1;
-        Some(self.entries[self.len])
+        Some(Entry::from(self.entries[self.len]))
     }
 
     // No change.

@@ -6,8 +6,8 @@ use console::{print, read, space};
 use lines::listing;
 
 fn main() {
-    let mut pool = space::all_of::<{ space::INPUT }>(0);
-    let mut text = space::all_of::<{ space::TEXT }>(0);
+    let mut pool = space::input();
+    let mut text = space::text();
     let n = read::all(&mut pool);
     let length = listing(&pool[..n], &mut text);
     print::first(length, &text);

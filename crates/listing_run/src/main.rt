@@ -30,8 +30,8 @@ fn show_all(input: &[u8], text: &mut [u8]) {
 }
 
 fn main() {
-    let mut input = space::all_of::<{ space::INPUT }>(0);
-    let mut text = space::all_of::<{ space::TEXT }>(0);
+    let mut input = space::input();
+    let mut text = space::text();
     let n = read::all(&mut input);
     show_all(&input[..n], &mut text);
 }

@@ -1,4 +1,4 @@
--- A model: what the code computes. No door's promise cites it, and it need not be believed; but for `place` and `handle_ok`, which that of `place_of` cites.
+-- A model: what the code computes. No door's promise cites it, and it need not be believed; but for `place`, `handle_ok` and `matches`, which that of `place_of` rests on.
 -- When a handle is good, by the fields of its record. Assumes nothing.
 use Rattle.std.specs.Prelude.{Bool, not, ◌&&◌, List, [], ℕ, eqb, Option, Some, None}
 use Rattle.meaning.specs.Layout.{within, at}

@@ -1,9 +1,10 @@
 // Marks and reset. A mark's changes stand in the journal, which the batch's loop keeps; a rollback is
 // answered here and done there.
 ghost use Rattle.std.specs.Prelude.{◌≡◌};
-ghost use Rattle.cursor.specs.Given.{mark_in};
-ghost use Rattle.ops.specs.Given.{settled_in};
-ghost use Rattle.ops.specs.Ops.{mark_n, rollback_n, commit_n, reset_n};
+ghost use Rattle.slots.specs.declared.head.Head.{Head};
+ghost use Rattle.cursor.specs.Given.{Mark, mark_in};
+ghost use Rattle.ops.specs.Given.{ask_number, settled_in};
+ghost use Rattle.ops.specs.Ops.{settled_n, mark_n, rollback_n, commit_n, reset_n};
 
 use format::refusal::Refusal;
 use slots::head::Head;
@@ -28,6 +29,13 @@ pub struct Settled {
     pub ask: Ask,
 }
 
+// What is done, with the mark after it: whatever the head and the mark were before it.
+pub fn finish(head: Head, mark: Option<u32>, ask: Ask) -> Result<Settled, Refusal>
+    ensures { (h : Head) → (k : Mark) → settled_in h k result ≡ settled_n head (mark_in mark) 0 (ask_number ask) }
+{
+    Ok(Settled { head, mark, ask })
+}
+
 // 26 mark.
 #[tactic(auto, unfolding(crate::specs::Ops::mark_n))]
 pub fn mark(h: Head, m: Option<u32>) -> Result<Settled, Refusal>
@@ -36,11 +44,7 @@ pub fn mark(h: Head, m: Option<u32>) -> Result<Settled, Refusal>
     if m.is_some() {
         return Err(Refusal::MarkOpen);
     }
-    Ok(Settled {
-        head: h,
-        mark: Some(h.numbers.used),
-        ask: Ask::Begin,
-    })
+    finish(h, Some(h.numbers.used), Ask::Begin)
 }
 
 // 27 rollback.
@@ -51,11 +55,7 @@ pub fn rollback(h: Head, m: Option<u32>) -> Result<Settled, Refusal>
     if m.is_none() {
         return Err(Refusal::NoMark);
     }
-    Ok(Settled {
-        head: h,
-        mark: m,
-        ask: Ask::Undo,
-    })
+    finish(h, m, Ask::Undo)
 }
 
 // 28 commit.
@@ -66,11 +66,7 @@ pub fn commit(h: Head, m: Option<u32>) -> Result<Settled, Refusal>
     if m.is_none() {
         return Err(Refusal::NoMark);
     }
-    Ok(Settled {
-        head: h,
-        mark: None,
-        ask: Ask::Nothing,
-    })
+    finish(h, None, Ask::Nothing)
 }
 
 // 29 reset.
@@ -81,9 +77,5 @@ pub fn reset(body: &mut [u8], h: Head, m: Option<u32>) -> Result<Settled, Refusa
     if m.is_some() {
         return Err(Refusal::MarkOpen);
     }
-    Ok(Settled {
-        head: slots::change::reset(body, h),
-        mark: None,
-        ask: Ask::Nothing,
-    })
+    finish(slots::change::reset(body, h), None, Ask::Nothing)
 }

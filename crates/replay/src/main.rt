@@ -83,7 +83,7 @@ impl Run {
 
     // Each command of the batch `w`; `spare` takes the copies of the pool.
     fn commands(&mut self, p: &mut [u8], spare: &mut [u8], w: &mut [u8]) {
-        let mut answers = space::all_of::<{ space::ANSWERS }>(0);
+        let mut answers = space::answers();
         let count = fields::get::<u16>(w, format::batch::COUNT);
         for k in 1..count {
             fields::copy_in(spare, 0, p);
@@ -138,9 +138,9 @@ fn next_run(mode: Mode, space: &mut [u8], spare: &mut [u8], w: &mut [u8]) {
 }
 
 fn main() {
-    let mut space = space::all_of::<{ space::POOL }>(0);
-    let mut spare = space::all_of::<{ space::POOL }>(0);
-    let mut w = space::all_of::<{ space::INPUT }>(0);
+    let mut space = space::pool();
+    let mut spare = space::pool();
+    let mut w = space::input();
     for _ in 0..RUNS {
         let mode = Mode::from(read::next::<u8>());
         if mode == Mode::End {

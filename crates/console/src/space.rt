@@ -3,6 +3,7 @@ ghost use Rattle.std.specs.Prelude.{◌≡◌, min, length};
 ghost use Rattle.console.specs.Filled.{filled};
 ghost use Rattle.io.specs.Counts.{IsPrefixLen};
 
+// The lengths of the buffers below; what each has room for stands there.
 pub const INPUT: usize = 65_536;
 
 pub const POOL: usize = 41_056;
